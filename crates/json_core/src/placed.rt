@@ -7,7 +7,7 @@ ghost use Rattle.json_core.specs.Printed.{IsInFront, run_text};
 
 use crate::printing::json_text;
 use std::alloc::{AllocError, Allocator, Global};
-use token_core::{is_plain, place_bytes, place_hex};
+use token_core::{is_plain, place_hex_text, place_quoted};
 use value_core::Value;
 
 /// The most bytes that a run has: its length is a compact u32, or the u32 of its type.
@@ -30,9 +30,7 @@ fn quote_in_front(out: &mut [u8], text: &str) -> usize
 {
     let len = text.len() + 2;
     if len <= out.len() {
-        let at = place_bytes(out, 0, b"\"");
-        let at = place_bytes(out, at, text.as_bytes());
-        place_bytes(out, at, b"\"");
+        place_quoted(out, 0, text);
     }
     len
 }
@@ -45,9 +43,7 @@ fn run_in_front(out: &mut [u8], bytes: &[u8]) -> usize
 {
     let len = 2 * bytes.len() + 4;
     if len <= out.len() {
-        let at = place_bytes(out, 0, b"\"0x");
-        let at = place_hex(out, at, bytes);
-        place_bytes(out, at, b"\"");
+        place_hex_text(out, 0, bytes);
     }
     len
 }

@@ -1,8 +1,8 @@
 //! Bytes in hexadecimal digits, from 0 to 9 and a to f, the higher half of each byte first.
 
-ghost use Rattle.std.specs.Prelude.{◌≡◌, ◌+◌, ◌*◌, ◌/◌, ◌%◌, ◌≤◌, length, drop, map, slice_index};
+ghost use Rattle.std.specs.Prelude.{◌≡◌, ◌+◌, ◌*◌, ◌/◌, ◌%◌, ◌≤◌, length, map, slice_index};
 ghost use Rattle.hex.specs.Hex.{encode_lower, lower_digits};
-ghost use Rattle.json.specs.Filled.{Placed};
+ghost use Rattle.token_core.specs.Places.{OnlyPlaced};
 
 use std::simd::prelude::*;
 
@@ -32,8 +32,7 @@ fn second_digits(bytes: u8x16) -> u8x16
 #[inline(always)]
 fn place_lanes(buffer: &mut [u8], at: usize, lanes: u8x16) -> usize
     requires { at + BLOCK ≤ length buffer.old }
-    ensures placed { Placed buffer.old buffer.new at lanes result }
-    ensures rest { drop result buffer.new ≡ drop result buffer.old }
+    ensures { OnlyPlaced buffer.old buffer.new at lanes result }
 {
     lanes.copy_to_slice(&mut buffer[at..]);
     at + BLOCK
@@ -44,8 +43,7 @@ fn place_lanes(buffer: &mut [u8], at: usize, lanes: u8x16) -> usize
 fn place_block(buffer: &mut [u8], at: usize, bytes: &[u8]) -> usize
     requires block { length bytes.now ≡ BLOCK }
     requires room { at + 2 * BLOCK ≤ length buffer.old }
-    ensures placed { Placed buffer.old buffer.new at (encode_lower bytes.now) result }
-    ensures rest { drop result buffer.new ≡ drop result buffer.old }
+    ensures { OnlyPlaced buffer.old buffer.new at (encode_lower bytes.now) result }
 {
     let bytes = u8x16::from_slice(bytes);
     let (first, second) = (first_digits(bytes), second_digits(bytes));
@@ -65,8 +63,7 @@ fn place_block(buffer: &mut [u8], at: usize, bytes: &[u8]) -> usize
 #[inline(always)]
 fn place_each(buffer: &mut [u8], at: usize, bytes: &[u8]) -> usize
     requires { at + 2 * length bytes.now ≤ length buffer.old }
-    ensures placed { Placed buffer.old buffer.new at (encode_lower bytes.now) result }
-    ensures rest { drop result buffer.new ≡ drop result buffer.old }
+    ensures { OnlyPlaced buffer.old buffer.new at (encode_lower bytes.now) result }
 {
     let end = at + 2 * bytes.len();
     hex::encode_to_slice(bytes, &mut buffer[at..end]).unwrap();
@@ -76,10 +73,9 @@ fn place_each(buffer: &mut [u8], at: usize, bytes: &[u8]) -> usize
 /// Two hexadecimal digits, from 0 to 9 and a to f, for each of these bytes, the higher half first: the place after them.
 /// What is after it stays.
 #[inline(always)]
-pub fn place_hex(buffer: &mut [u8], at: usize, bytes: &[u8]) -> usize
+pub(crate) fn place_hex(buffer: &mut [u8], at: usize, bytes: &[u8]) -> usize
     requires { at + 2 * length bytes.now ≤ length buffer.old }
-    ensures placed { Placed buffer.old buffer.new at (encode_lower bytes.now) result }
-    ensures rest { drop result buffer.new ≡ drop result buffer.old }
+    ensures { OnlyPlaced buffer.old buffer.new at (encode_lower bytes.now) result }
 {
     'turns: for block in 0..bytes.len() / BLOCK {
         let from = BLOCK * block;

@@ -5,8 +5,8 @@ mod digits;
 mod output;
 mod places;
 mod plain;
+mod strings;
 
-pub use digits::place_hex;
 pub use output::Output;
-pub use places::place_bytes;
 pub use plain::is_plain;
+pub use strings::{place_hex_text, place_quoted};

@@ -9,9 +9,9 @@ ghost use Rattle.json.specs.Token.{begin_object, end_object, begin_array, end_ar
 ghost use Rattle.json.specs.Token.{number, boolean, null};
 ghost use Rattle.json.specs.Print.{escape};
 
-use crate::digits::place_hex;
-use crate::places::{place_byte, place_bytes, place_comma, place_decimal, place_long};
+use crate::places::{place_between, place_byte, place_bytes, place_comma, place_decimal, place_long};
 use crate::plain::is_plain;
+use crate::strings::place_hex_text;
 use json::Writer;
 use std::alloc::{AllocError, Global};
 use std::marker::Model;
@@ -153,9 +153,8 @@ impl Output {
         make_room(&mut self.bytes, self.len, characters.len() + 6)?;
         let buffer = self.bytes.as_mut_slice();
         let at = place_comma(buffer, self.len, self.after_value);
-        let at = place_bytes(buffer, at, opening.as_bytes());
-        let at = place_bytes(buffer, at, characters.as_bytes());
-        self.len = place_bytes(buffer, at, closing.as_bytes());
+        let (opening, closing) = (opening.as_bytes(), closing.as_bytes());
+        self.len = place_between(buffer, at, opening, characters.as_bytes(), closing);
         self.after_value = ends_value;
         Ok(())
     }
@@ -356,9 +355,7 @@ impl Output {
         make_room(&mut self.bytes, self.len, room)?;
         let buffer = self.bytes.as_mut_slice();
         let at = place_comma(buffer, self.len, self.after_value);
-        let at = place_bytes(buffer, at, b"\"0x");
-        let at = place_hex(buffer, at, bytes);
-        self.len = place_byte(buffer, at, b'"');
+        self.len = place_hex_text(buffer, at, bytes);
         self.after_value = true;
         Ok(())
     }

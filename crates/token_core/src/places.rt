@@ -1,9 +1,10 @@
 //! Bytes written into a buffer from a place on.
 
-ghost use Rattle.std.specs.Prelude.{◌≡◌, ◌+◌, ◌≤◌, ◌<◌, [], ◌∷◌, length, drop, cond};
+ghost use Rattle.std.specs.Prelude.{◌≡◌, ◌+◌, ◌≤◌, ◌<◌, [], ◌∷◌, ◌++◌, length, cond};
 ghost use Rattle.std.specs.Fmt.{decimal};
 ghost use Rattle.json.specs.Filled.{Placed};
 ghost use Rattle.token_core.specs.Digits.{last_digits};
+ghost use Rattle.token_core.specs.Places.{OnlyPlaced};
 
 /// Ten to the sixteenth: a number has its last sixteen digits below it.
 const UNIT: u64 = 10_000_000_000_000_000;
@@ -30,14 +31,31 @@ pub(crate) fn place_comma(buffer: &mut [u8], at: usize, wanted: bool) -> usize
 
 /// These bytes: the place after them. What is after it stays.
 #[inline(always)]
-pub fn place_bytes(buffer: &mut [u8], at: usize, bytes: &[u8]) -> usize
+pub(crate) fn place_bytes(buffer: &mut [u8], at: usize, bytes: &[u8]) -> usize
     requires { at + length bytes.now ≤ length buffer.old }
-    ensures placed { Placed buffer.old buffer.new at bytes.now result }
-    ensures rest { drop result buffer.new ≡ drop result buffer.old }
+    ensures { OnlyPlaced buffer.old buffer.new at bytes.now result }
 {
     let end = at + bytes.len();
     buffer[at..end].copy_from_slice(bytes);
     end
+}
+
+/// These bytes between others: the place after them. What is after it stays.
+#[inline(always)]
+pub(crate) fn place_between(
+    buffer: &mut [u8],
+    at: usize,
+    opening: &[u8],
+    bytes: &[u8],
+    closing: &[u8],
+) -> usize
+    requires { at + length opening.now + length bytes.now + length closing.now ≤ length buffer.old }
+    ensures { OnlyPlaced buffer.old buffer.new at
+        (opening.now ++ (bytes.now ++ closing.now)) result }
+{
+    let at = place_bytes(buffer, at, opening);
+    let at = place_bytes(buffer, at, bytes);
+    place_bytes(buffer, at, closing)
 }
 
 /// How many decimal digits the number has.
