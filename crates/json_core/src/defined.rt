@@ -4,11 +4,12 @@ ghost use Rattle.std.specs.Prelude.{◌≡◌, ◌<◌, ◌^◌, length, option_
 ghost use Rattle.registry_core.specs.Fits.{FitsDefinition};
 ghost use Rattle.widths_core.specs.Targets.{compact_target_of};
 ghost use Rattle.graph_core.specs.Types.{shape};
-ghost use Rattle.json_core.specs.Defined.{is_long_primitive, is_long, is_long_target, defined_arm};
+ghost use Rattle.registry_core.specs.Kinds.{kind_of};
+ghost use Rattle.json_core.specs.Defined.{kind_json, integer_json, compact_json, defined_arm};
 ghost use Rattle.json_core.specs.Defined.{composite_fields};
 
+use crate::integer_json::IntegerJson;
 use registry_core::{Arm, Field, Primitive, PrimitiveKind, TypeDef, TypeId};
-use scale_core::Target;
 use widths_core::Checked;
 
 /// What a type is made of, where it is a position.
@@ -20,31 +21,36 @@ fn definition(checked: &Checked, ty: TypeId) -> Option<&TypeDef>
     Some(&info.shape)
 }
 
-/// Is the primitive an integer of 128 bits?
-fn is_long_primitive(primitive: Primitive) -> bool
-    ensures { result ≡ is_long_primitive primitive }
+/// Returns how integers of the primitive stand in JSON.
+fn primitive_json(primitive: Primitive) -> IntegerJson
+    ensures { result ≡ kind_json (kind_of primitive) }
 {
     match primitive.kind() {
-        PrimitiveKind::Unsigned(width) | PrimitiveKind::Signed(width) => width.bytes() > 8,
-        _ => false,
+        PrimitiveKind::Unsigned(width) | PrimitiveKind::Signed(width) => {
+            IntegerJson::of_width(width.bytes())
+        }
+        _ => IntegerJson::Number,
     }
 }
 
-/// Is the type an integer of 128 bits?
-pub(crate) fn is_long(checked: &Checked, ty: TypeId) -> bool
-    ensures { result ≡ is_long (shape checked.now.types ty.0) }
+/// Returns how integers of the type stand in JSON.
+pub(crate) fn integer_json(checked: &Checked, ty: TypeId) -> IntegerJson
+    ensures { result ≡ integer_json (shape checked.now.types ty.0) }
 {
     match definition(checked, ty) {
-        Some(TypeDef::Primitive(primitive)) => is_long_primitive(*primitive),
-        _ => false,
+        Some(TypeDef::Primitive(primitive)) => primitive_json(*primitive),
+        _ => IntegerJson::Number,
     }
 }
 
-/// Is the type a compact integer of 128 bits?
-pub(crate) fn is_long_compact(checked: &Checked, ty: TypeId) -> bool
-    ensures { result ≡ is_long_target (compact_target_of checked.now.types ty.0) }
+/// Returns how compact integers of the type stand in JSON.
+pub(crate) fn compact_json(checked: &Checked, ty: TypeId) -> IntegerJson
+    ensures { result ≡ compact_json (compact_target_of checked.now.types ty.0) }
 {
-    matches!(checked.compact_target(ty), Some(Target::U128))
+    match checked.compact_target(ty) {
+        Some(target) => IntegerJson::of_width(target.bytes()),
+        None => IntegerJson::Number,
+    }
 }
 
 /// The arm at a position of a variant.

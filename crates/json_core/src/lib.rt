@@ -4,6 +4,7 @@
 mod defined;
 mod fields;
 mod hexadecimal;
+mod integer_json;
 mod integers;
 pub mod laws;
 mod names;

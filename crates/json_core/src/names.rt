@@ -3,7 +3,7 @@
 ghost use Rattle.std.specs.Prelude.{◌≡◌, ◌<◌, ◌≤◌, ◌^◌, ◌↔◌, [], Some, length, option_map, IfOk};
 ghost use Rattle.std.specs.Prelude.{IsSome, IsTrue};
 ghost use Rattle.std.specs.List.{range_with_len};
-ghost use Rattle.std.specs.Bool.{OnTrue};
+ghost use Rattle.token_core.specs.Plain.{OnPlain};
 ghost use Rattle.json_core.specs.Ordered.{ArePlain, is_there, place_among};
 ghost use Rattle.json_core.specs.Ordered.{lent_entries, order_from, positions_of};
 
@@ -12,7 +12,7 @@ use registry_core::Field;
 use std::alloc::{AllocError, Global};
 use std::cmp::Ordering;
 use std::collections::BTreeMap;
-use token_core::is_plain;
+use token_core::{Escapes, is_plain};
 
 /// So many fields at most are few: what is done for each pair of them costs less than memory for a map or a list.
 pub(crate) const FEW: usize = 8;
@@ -109,16 +109,16 @@ pub(crate) fn counts_up(order: &[u32]) -> bool
     true
 }
 
-/// Does none of the names need an escape? A field without one is none that does.
-pub(crate) fn are_plain(fields: &[Field]) -> bool
-    ensures { OnTrue result (ArePlain fields.now) }
+/// Returns what is known of the escapes in the names: whether none needs one. A field without a name needs none.
+pub(crate) fn escapes_of(fields: &[Field]) -> Escapes
+    ensures { OnPlain result (ArePlain fields.now) }
 {
     'fields: for field in fields {
         if let Some(name) = &field.name {
             if !is_plain(name.as_str()) {
-                return false;
+                return Escapes::Unknown;
             }
         }
     }
-    true
+    Escapes::None
 }

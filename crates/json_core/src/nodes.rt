@@ -9,11 +9,11 @@ ghost use Rattle.node_core.specs.Shown.{children_of};
 ghost use Rattle.json_core.specs.Json.{fields_json, parts_json, json_seen};
 ghost use Rattle.json_core.specs.Ordered.{fields_at, Grows};
 
-use crate::defined::{composite_fields, defined_arm, is_long, is_long_compact};
+use crate::defined::{compact_json, composite_fields, defined_arm, integer_json};
 use crate::fields::fields_json;
 use crate::hexadecimal::bytes_json;
 use crate::integers::{signed_json, unsigned_json, wide_json};
-use crate::orders::{Orders, Place};
+use crate::orders::{FieldsOf, Orders};
 use registry_core::{Arm, TypeId};
 use serde_json::{Map, Value};
 use std::alloc::{AllocError, Allocator, Global};
@@ -49,7 +49,7 @@ fn parts_json(
     ensures grows { Grows orders.old orders.new }
 {
     match composite_fields(orders.checked(), ty) {
-        Some(fields) => fields_json(alloc, orders, Place { ty: ty.0, arm: 0 }, fields, items),
+        Some(fields) => fields_json(alloc, orders, FieldsOf { ty: ty.0, arm: 0 }, fields, items),
         None => Ok(Value::Array(items)),
     }
 }
@@ -58,18 +58,18 @@ fn parts_json(
 fn arm_json(
     alloc: Global,
     orders: &mut Orders<'_>,
-    place: Place,
+    of: FieldsOf,
     arm: &Arm,
     items: Vec<Value>,
 ) -> Result<Value, AllocError>
-    requires fields { fields_at orders.old.types place ≡ Some arm.now.fields }
+    requires fields { fields_at orders.old.types of ≡ Some arm.now.fields }
     requires few { length arm.now.fields < 2 ^ 32 }
     ensures json { IfOk result
         (λ v. view v ≡ object (member arm.now.name
         (fields_json arm.now.fields (items_view items.items)) no_members)) }
     ensures grows { Grows orders.old orders.new }
 {
-    let fields = fields_json(alloc, orders, place, arm.fields.as_slice(), items)?;
+    let fields = fields_json(alloc, orders, of, arm.fields.as_slice(), items)?;
     single(alloc, arm.name.as_str(), fields)
 }
 
@@ -93,18 +93,18 @@ fn with_items(
         What::Char(x) => char_json(alloc, x),
         What::Text => Value::try_from_str(alloc, node.text().unwrap()),
         What::Bytes => bytes_json(alloc, node.bytes().unwrap()),
-        What::Unsigned(n) => unsigned_json(alloc, is_long(checked, ty), n),
-        What::Signed(n) => signed_json(alloc, is_long(checked, ty), n),
+        What::Unsigned(n) => unsigned_json(alloc, integer_json(checked, ty), n),
+        What::Signed(n) => signed_json(alloc, integer_json(checked, ty), n),
         What::Wide(bytes) => wide_json(alloc, bytes),
-        What::Compact(n) => unsigned_json(alloc, is_long_compact(checked, ty), n),
+        What::Compact(n) => unsigned_json(alloc, compact_json(checked, ty), n),
         What::Fields => parts_json(alloc, orders, ty, items),
         What::Arm { position } => {
             let arm = defined_arm(checked, ty, position).unwrap();
-            let place = Place {
+            let of = FieldsOf {
                 ty: ty.0,
                 arm: position,
             };
-            arm_json(alloc, orders, place, arm, items)
+            arm_json(alloc, orders, of, arm, items)
         }
         What::List => Ok(Value::Array(items)),
         What::Count(count) => single(alloc, "count", Value::from(count)),

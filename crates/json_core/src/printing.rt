@@ -45,7 +45,7 @@ pub fn json_text<A: Allocator>(alloc: Global, value: &Value<'_, A>) -> Result<St
 {
     let mut out = Output::with_room(alloc, FIRST_ROOM)?;
     let mut orders = Orders::new(alloc, value.checked());
-    write_node(alloc, &mut out, &mut orders, &value.root())?;
+    write_node(&mut out, &mut orders, &value.root())?;
     Ok(out.into_text())
 }
 

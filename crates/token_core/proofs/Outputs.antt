@@ -28,6 +28,7 @@ use Rattle.json.proofs.Printed.Strings.{escape_byte_plain}
 use Rattle.json.proofs.Printed.Tokens.{print_from-append}
 use Rattle.json.proofs.Printed.Utf8.{are_ascii, IsUtf8-are_ascii}
 use Rattle.token_core.specs.Tokens.{Text, put, prints}
+use Rattle.token_core.specs.declared.output.Role.TheVariants as role
 
 -- tokens after tokens
 pub prints_again : (w : Text) (ts us : List Token) → prints (prints w ts) us ≡ prints w (ts ++ us)
@@ -59,15 +60,18 @@ written w s b l t same says is e = ap (λ x. record { text = x; after_value = en
     ∙ ap₂ (λ (a b : List ℕ). a ++ b) (comma_of w.after_value) (append-nil (token_text t)))))
 
 -- a token that begins a value or a member is printed by its text, after a comma where one is due
-pub begun : {E : Type 0} (r : Result (Unit {0}) E) (w new : Text) (b : Bool) (l : List ℕ)
-    (t : Token) → b ≡ w.after_value → l ≡ token_text t → begins t ≡ true →
-    OnOk r (new ≡ put w b l (ends t)) → OnOk r (new ≡ prints w (t ∷ []))
-begun r w new b l t same says is =
-    on_ok_weaker r (λ e. e ∙ written w _ b l t same says is refl)
+pub begun : {E : Type 0} (r : Result (Unit {0}) E) (w new : Text) (l : List ℕ) (t : Token) →
+    l ≡ token_text t → begins t ≡ true → OnOk r (new ≡ record {
+      text = w.text ++ (cond w.after_value (44 ∷ []) [] ++ l);
+      after_value = ends t;
+    }) → OnOk r (new ≡ prints w (t ∷ []))
+begun r w new l t says is =
+    on_ok_weaker r (λ e. e ∙ written w _ w.after_value l t refl says is refl)
 
 -- and one that doesn't, with none
 pub ended : {E : Type 0} (r : Result (Unit {0}) E) (w new : Text) (t : Token) →
-    begins t ≡ false → OnOk r (new ≡ put w false (token_text t) (ends t)) →
+    begins t ≡ false →
+    OnOk r (new ≡ record { text = w.text ++ token_text t; after_value = ends t }) →
     OnOk r (new ≡ prints w (t ∷ []))
 unfolding print_from
 ended r w new t is = on_ok_weaker r (λ e. e
@@ -94,7 +98,7 @@ plain_key s e = ap (λ l. 34 ∷ (l ++ 34 ∷ 58 ∷ [])) (sym e)
 
 -- an object begins with a key that needs no escape
 pub first_key : (w : Text) (n : List ℕ) → escape n ≡ n →
-    put w w.after_value (123 ∷ 34 ∷ (n ++ 34 ∷ 58 ∷ [])) false
+    put w role.Opening (123 ∷ 34 ∷ (n ++ 34 ∷ 58 ∷ []))
     ≡ prints w (begin_object ∷ key n ∷ [])
 unfolding print_from
 first_key w n e = ap (λ s. record { text = w.text ++ s; after_value = false })
@@ -103,7 +107,7 @@ first_key w n e = ap (λ s. record { text = w.text ++ s; after_value = false })
 
 -- and with an array
 pub first_array : (w : Text) (n : List ℕ) → escape n ≡ n →
-    put w w.after_value (123 ∷ 34 ∷ (n ++ 34 ∷ 58 ∷ 91 ∷ [])) false
+    put w role.Opening (123 ∷ 34 ∷ (n ++ 34 ∷ 58 ∷ 91 ∷ []))
     ≡ prints w (begin_object ∷ key n ∷ begin_array ∷ [])
 unfolding print_from
 first_array w n e = ap (λ s. record { text = w.text ++ s; after_value = false })
@@ -113,7 +117,7 @@ first_array w n e = ap (λ s. record { text = w.text ++ s; after_value = false }
 
 -- an array and the object around it end
 pub array_member_ended : (w : Text) →
-    put w false (93 ∷ 125 ∷ []) true ≡ prints w (end_array ∷ end_object ∷ [])
+    put w role.Closing (93 ∷ 125 ∷ []) ≡ prints w (end_array ∷ end_object ∷ [])
 unfolding print_from
 array_member_ended w = ap (λ (l : List ℕ). record { text = w.text ++ l; after_value = true })
     (sym (ap (λ (l : List ℕ). l ++ 93 ∷ 125 ∷ []) (no_comma w.after_value)))

@@ -8,5 +8,5 @@ mod plain;
 mod strings;
 
 pub use output::Output;
-pub use plain::is_plain;
+pub use plain::{Escapes, is_plain};
 pub use strings::{place_hex_text, place_quoted};

@@ -8,9 +8,12 @@ ghost use Rattle.hex.specs.Hex.{encode_lower};
 ghost use Rattle.json.specs.Token.{begin_object, end_object, begin_array, end_array, key, string};
 ghost use Rattle.json.specs.Token.{number, boolean, null};
 ghost use Rattle.json.specs.Print.{escape};
+ghost use Rattle.token_core.specs.Plain.{OnPlain};
 
-use crate::places::{place_between, place_byte, place_bytes, place_comma, place_decimal, place_long};
-use crate::plain::is_plain;
+use crate::places::{
+    place_between, place_byte, place_bytes, place_comma, place_decimal, place_long,
+};
+use crate::plain::{Escapes, is_plain};
 use crate::strings::place_hex_text;
 use json::Writer;
 use std::alloc::{AllocError, Global};
@@ -90,13 +93,47 @@ fn grow(bytes: &mut Vec<u8>, more: usize) -> Result<(), AllocError>
     Ok(())
 }
 
-/// Does the name need no escape? Where `plain` says so, it isn't looked at.
+/// Returns whether the name needs no escape, and looks at it only if that is unknown.
 #[inline(always)]
-fn is_known_plain(name: &str, plain: bool) -> bool
-    requires { OnTrue plain (escape name.now ≡ name.now) }
+fn is_known_plain(name: &str, escapes: Escapes) -> bool
+    requires { OnPlain escapes (escape name.now ≡ name.now) }
     ensures { OnTrue result (escape name.now ≡ name.now) }
 {
-    plain || is_plain(name)
+    match escapes {
+        Escapes::None => true,
+        Escapes::Unknown => is_plain(name),
+    }
+}
+
+/// What a token is to the values around it.
+#[derive(Clone, Copy)]
+enum Role {
+    /// It begins a value or a member that goes on. A comma comes before it if a value ended there.
+    Opening,
+    /// It is a value. A comma comes before it if a value ended there.
+    Value,
+    /// It ends a value, and no comma comes before it.
+    Closing,
+}
+
+impl Role {
+    ghost use Rattle.token_core.specs.Tokens.{takes_comma, ends_value};
+
+    /// Returns whether a comma comes before such a token.
+    #[inline(always)]
+    fn takes_comma(self, after_value: bool) -> bool
+        ensures { result ≡ takes_comma self after_value }
+    {
+        after_value && !matches!(self, Role::Closing)
+    }
+
+    /// Returns whether a value ends with such a token.
+    #[inline(always)]
+    fn ends_value(self) -> bool
+        ensures { result ≡ ends_value self }
+    {
+        !matches!(self, Role::Opening)
+    }
 }
 
 impl Output {
@@ -123,16 +160,16 @@ impl Output {
         unsafe { String::from_utf8_unchecked(bytes) }
     }
 
-    /// These characters, after a comma where one is wanted.
+    /// Appends the characters of a token.
     #[inline(always)]
-    fn put(&mut self, comma: bool, characters: &str, ends_value: bool) -> Result<(), AllocError>
-        ensures { OnOk result (self.new ≡ put self.old comma characters.now ends_value) }
+    fn put(&mut self, role: Role, characters: &str) -> Result<(), AllocError>
+        ensures { OnOk result (self.new ≡ put self.old role characters.now) }
     {
         make_room(&mut self.bytes, self.len, characters.len() + 1)?;
         let buffer = self.bytes.as_mut_slice();
-        let at = place_comma(buffer, self.len, comma);
+        let at = place_comma(buffer, self.len, role.takes_comma(self.after_value));
         self.len = place_bytes(buffer, at, characters.as_bytes());
-        self.after_value = ends_value;
+        self.after_value = role.ends_value();
         Ok(())
     }
 
@@ -141,21 +178,21 @@ impl Output {
     #[inline(always)]
     fn put_plain(
         &mut self,
+        role: Role,
         opening: &str,
         characters: &str,
         closing: &str,
-        ends_value: bool,
     ) -> Result<(), AllocError>
         requires { (length opening.now ≤ 2) × (length closing.now ≤ 3) }
-        ensures { OnOk result (self.new ≡ put self.old self.old.after_value
-            (opening.now ++ (characters.now ++ closing.now)) ends_value) }
+        ensures { OnOk result (self.new ≡ put self.old role
+            (opening.now ++ (characters.now ++ closing.now))) }
     {
         make_room(&mut self.bytes, self.len, characters.len() + 6)?;
         let buffer = self.bytes.as_mut_slice();
-        let at = place_comma(buffer, self.len, self.after_value);
+        let at = place_comma(buffer, self.len, role.takes_comma(self.after_value));
         let (opening, closing) = (opening.as_bytes(), closing.as_bytes());
         self.len = place_between(buffer, at, opening, characters.as_bytes(), closing);
-        self.after_value = ends_value;
+        self.after_value = role.ends_value();
         Ok(())
     }
 
@@ -164,7 +201,7 @@ impl Output {
     pub fn begin_object(&mut self) -> Result<(), AllocError>
         ensures { AddsTokens result self.old self.new (begin_object ∷ []) }
     {
-        self.put(self.after_value, "{", false)
+        self.put(Role::Opening, "{")
     }
 
     /// The object that began last ends.
@@ -172,7 +209,7 @@ impl Output {
     pub fn end_object(&mut self) -> Result<(), AllocError>
         ensures { AddsTokens result self.old self.new (end_object ∷ []) }
     {
-        self.put(false, "}", true)
+        self.put(Role::Closing, "}")
     }
 
     /// An array begins.
@@ -180,7 +217,7 @@ impl Output {
     pub fn begin_array(&mut self) -> Result<(), AllocError>
         ensures { AddsTokens result self.old self.new (begin_array ∷ []) }
     {
-        self.put(self.after_value, "[", false)
+        self.put(Role::Opening, "[")
     }
 
     /// The array that began last ends.
@@ -188,7 +225,7 @@ impl Output {
     pub fn end_array(&mut self) -> Result<(), AllocError>
         ensures { AddsTokens result self.old self.new (end_array ∷ []) }
     {
-        self.put(false, "]", true)
+        self.put(Role::Closing, "]")
     }
 
     /// `null`.
@@ -196,7 +233,7 @@ impl Output {
     pub fn null(&mut self) -> Result<(), AllocError>
         ensures { AddsTokens result self.old self.new (null ∷ []) }
     {
-        self.put(self.after_value, "null", true)
+        self.put(Role::Value, "null")
     }
 
     /// `true` or `false`.
@@ -204,7 +241,7 @@ impl Output {
     pub fn boolean(&mut self, x: bool) -> Result<(), AllocError>
         ensures { AddsTokens result self.old self.new (boolean x ∷ []) }
     {
-        self.put(self.after_value, if x { "true" } else { "false" }, true)
+        self.put(Role::Value, if x { "true" } else { "false" })
     }
 
     /// A number from 0.
@@ -226,7 +263,7 @@ impl Output {
         ensures { AddsTokens result self.old self.new (number (signed_decimal n) ∷ []) }
     {
         let mut buffer = itoa::Buffer::new();
-        self.put(self.after_value, buffer.format(n), true)
+        self.put(Role::Value, buffer.format(n))
     }
 
     /// A number from 0 as a text of its digits.
@@ -248,46 +285,44 @@ impl Output {
         ensures { AddsTokens result self.old self.new (string (signed_decimal n) ∷ []) }
     {
         let mut buffer = itoa::Buffer::new();
-        self.put_plain("\"", buffer.format(n), "\"", true)
+        self.put_plain(Role::Value, "\"", buffer.format(n), "\"")
     }
 
-    /// A key and its colon. Where `plain` is not said, it is found out whether the name needs an escape.
+    /// A key and its colon.
     #[inline(always)]
-    pub fn key(&mut self, alloc: Global, name: &str, plain: bool) -> Result<(), AllocError>
-        requires { OnTrue plain (escape name.now ≡ name.now) }
+    pub fn key(&mut self, name: &str, escapes: Escapes) -> Result<(), AllocError>
+        requires { OnPlain escapes (escape name.now ≡ name.now) }
         ensures { AddsTokens result self.old self.new (key name.now ∷ []) }
     {
-        if is_known_plain(name, plain) {
-            return self.put_plain("\"", name, "\":", false);
+        if is_known_plain(name, escapes) {
+            return self.put_plain(Role::Opening, "\"", name, "\":");
         }
-        self.escaped_key(alloc, name)
+        self.escaped_key(name)
     }
 
-    /// An object begins, with a key and its colon. Where `plain` is not said, it is found out whether the name needs an
-    /// escape.
+    /// An object begins, with a key and its colon.
     #[inline(always)]
-    pub fn begin_member(&mut self, alloc: Global, name: &str, plain: bool) -> Result<(), AllocError>
-        requires { OnTrue plain (escape name.now ≡ name.now) }
+    pub fn begin_member(&mut self, name: &str) -> Result<(), AllocError>
         ensures { AddsTokens result self.old self.new (begin_object ∷ key name.now ∷ []) }
     {
-        if is_known_plain(name, plain) {
-            return self.put_plain("{\"", name, "\":", false);
+        if is_plain(name) {
+            return self.put_plain(Role::Opening, "{\"", name, "\":");
         }
         self.begin_object()?;
-        self.escaped_key(alloc, name)
+        self.escaped_key(name)
     }
 
     /// An object begins, with a key and its colon, and then an array.
     #[inline(always)]
-    pub fn begin_array_member(&mut self, alloc: Global, name: &str) -> Result<(), AllocError>
+    pub fn begin_array_member(&mut self, name: &str) -> Result<(), AllocError>
         ensures { AddsTokens result self.old self.new
             (begin_object ∷ key name.now ∷ begin_array ∷ []) }
     {
         if is_plain(name) {
-            return self.put_plain("{\"", name, "\":[", false);
+            return self.put_plain(Role::Opening, "{\"", name, "\":[");
         }
         self.begin_object()?;
-        self.escaped_key(alloc, name)?;
+        self.escaped_key(name)?;
         self.begin_array()
     }
 
@@ -296,47 +331,47 @@ impl Output {
     pub fn end_array_member(&mut self) -> Result<(), AllocError>
         ensures { AddsTokens result self.old self.new (end_array ∷ end_object ∷ []) }
     {
-        self.put(false, "]}", true)
+        self.put(Role::Closing, "]}")
     }
 
     /// A key, some of whose characters need an escape, and its colon.
     #[inline(never)]
-    fn escaped_key(&mut self, alloc: Global, name: &str) -> Result<(), AllocError>
+    fn escaped_key(&mut self, name: &str) -> Result<(), AllocError>
         ensures { AddsTokens result self.old self.new (key name.now ∷ []) }
     {
-        let mut room = std::mem::replace(&mut self.escaped, Vec::new(alloc));
+        let mut room = std::mem::replace(&mut self.escaped, Vec::new(*self.bytes.allocator()));
         room.clear();
         let mut escaped = Writer::new(room);
         escaped.key(name)?;
         let escaped = unsafe { String::from_utf8_unchecked(escaped.into_inner()) };
-        self.put(self.after_value, escaped.as_str(), false)?;
+        self.put(Role::Opening, escaped.as_str())?;
         self.escaped = escaped.into_bytes();
         Ok(())
     }
 
     /// A text.
     #[inline(always)]
-    pub fn string(&mut self, alloc: Global, text: &str) -> Result<(), AllocError>
+    pub fn string(&mut self, text: &str) -> Result<(), AllocError>
         ensures { AddsTokens result self.old self.new (string text.now ∷ []) }
     {
         if is_plain(text) {
-            self.put_plain("\"", text, "\"", true)
+            self.put_plain(Role::Value, "\"", text, "\"")
         } else {
-            self.escaped(alloc, text)
+            self.escaped(text)
         }
     }
 
     /// A text, some of whose characters need an escape.
     #[inline(never)]
-    fn escaped(&mut self, alloc: Global, text: &str) -> Result<(), AllocError>
+    fn escaped(&mut self, text: &str) -> Result<(), AllocError>
         ensures { AddsTokens result self.old self.new (string text.now ∷ []) }
     {
-        let mut room = std::mem::replace(&mut self.escaped, Vec::new(alloc));
+        let mut room = std::mem::replace(&mut self.escaped, Vec::new(*self.bytes.allocator()));
         room.clear();
         let mut escaped = Writer::new(room);
         escaped.string(text)?;
         let escaped = unsafe { String::from_utf8_unchecked(escaped.into_inner()) };
-        self.put(self.after_value, escaped.as_str(), true)?;
+        self.put(Role::Value, escaped.as_str())?;
         self.escaped = escaped.into_bytes();
         Ok(())
     }

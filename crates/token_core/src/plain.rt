@@ -5,6 +5,15 @@ ghost use Rattle.token_core.specs.Plain.{TellsAsIs, TellsPlain};
 
 use std::simd::prelude::*;
 
+/// What is known of the escapes that a name needs.
+#[derive(Clone, Copy)]
+pub enum Escapes {
+    /// It needs none.
+    None,
+    /// It may need some.
+    Unknown,
+}
+
 /// Does no byte of these 16 need an escape?
 #[inline(always)]
 fn is_plain_16(text: &[u8], at: usize) -> bool
