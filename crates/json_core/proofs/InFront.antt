@@ -14,6 +14,7 @@ use Rattle.token_core.specs.Places.{OnlyPlaced}
 use Rattle.token_core.proofs.Outputs.{hex_string}
 use Rattle.json_core.specs.Json.{json_of, json_text}
 use Rattle.json_core.specs.Printed.{IsInFront, run_text}
+use Rattle.json_core.proofs.Reported.{found_is}
 
 -- what is placed first stands at the front
 pub in_front : (s old new : List ℕ) (end : ℕ) → OnlyPlaced old new 0 s end → IsInFront s old new
@@ -62,7 +63,7 @@ pub found_quoted : (s value : Seen) (found : Option (Bor (List ℕ))) (x : Bor (
     quoted x.now ≡ json_text value
 found_quoted s value found x e is same =
     text_is_quoted s.types s.ty s.tree x.now
-    (sym e ∙ ap (option_map (λ (y : Bor (List ℕ)). y.now)) is) ∙ ap json_text same
+    (found_is e is) ∙ ap json_text same
 
 -- the same of a run of bytes
 pub found_run : (s value : Seen) (found : Option (Bor (List ℕ))) (x : Bor (List ℕ)) →
@@ -70,4 +71,4 @@ pub found_run : (s value : Seen) (found : Option (Bor (List ℕ))) (x : Bor (Lis
     run_text x.now ≡ json_text value
 found_run s value found x e is same =
     run_is_text s.types s.ty s.tree x.now
-    (sym e ∙ ap (option_map (λ (y : Bor (List ℕ)). y.now)) is) ∙ ap json_text same
+    (found_is e is) ∙ ap json_text same

@@ -313,31 +313,19 @@ pub reported : (s : Seen) (w : What) → IsValue s → w ≡ what_of s.tree →
 reported s w h e = subst (JsonReported s.types s.ty s.tree) (sym e)
     (reported_by s.types s.ty s.tree h.0 h.1 h.2)
 
--- ---- what the code has found of the node's type
-
-abbrev pub AtNode : Seen → List TypeInfo → ℕ → Type 0
-AtNode s types t = (types ≡ s.types) × (t ≡ s.ty)
-
--- how integers are shown is asked of the node's own type where that type was looked up
-pub shown_here : (s : Seen) (types : List TypeInfo) (t : ℕ) (found : IntegerJson) → AtNode s types t →
-    found ≡ integer_json (shape types t) → found ≡ integer_json (shape s.types s.ty)
-shown_here s types t found at e = rw (← at.0, ← at.1) e
-
--- the same for compact integers, by the target of the node's own type
-pub compact_here : (s : Seen) (types : List TypeInfo) (t : ℕ) (found : IntegerJson) →
-    AtNode s types t → found ≡ compact_json (compact_target_of types t) →
-    found ≡ compact_json (compact_target_of s.types s.ty)
-compact_here s types t found at e = rw (← at.0, ← at.1) e
-
 -- ---- what the code has found of a node's text, of its fields and of its arm
+
+-- what was found is what is there
+pub found_is : {X : Type 0} {there : Option X} {found : Option (Bor X)} {x : Bor X} →
+    option_map (λ y. y.now) found ≡ there → found ≡ Some x → there ≡ Some x.now
+found_is e f = sym e ∙ ap (option_map (λ y. y.now)) f
 
 -- a node that is a text has the JSON string of the text that was found for it
 pub text_is : (s : Seen) (found : Option (Bor (List ℕ))) (text : Bor (List ℕ)) →
     option_map (λ x. x.now) found ≡ text_of s.tree → found ≡ Some text →
     JsonReported s.types s.ty s.tree what.Text → json_seen s ≡ json.string text.now
 text_is s found text e f h =
-    let same : Some text.now ≡ Some h.0 = ap (option_map (λ (x : Bor (List ℕ)). x.now)) (sym f) ∙ e
-    ∙ h.1 in
+    let same : Some text.now ≡ Some h.0 = sym (found_is e f) ∙ h.1 in
     let is : text.now ≡ h.0 = cc in
     h.2 ∙ ap json.string (sym is)
 
@@ -346,26 +334,9 @@ pub bytes_are : (s : Seen) (found : Option (Bor (List ℕ))) (bytes : Bor (List 
     option_map (λ x. x.now) found ≡ bytes_of s.tree → found ≡ Some bytes →
     JsonReported s.types s.ty s.tree what.Bytes → json_seen s ≡ bytes_json bytes.now
 bytes_are s found bytes e f h =
-    let same : Some bytes.now ≡ Some h.0 = ap (option_map (λ (x : Bor (List ℕ)). x.now)) (sym f) ∙ e
-    ∙ h.1 in
+    let same : Some bytes.now ≡ Some h.0 = sym (found_is e f) ∙ h.1 in
     let is : bytes.now ≡ h.0 = cc in
     h.2 ∙ ap bytes_json (sym is)
-
--- the fields that were found are those of the node's type
-pub fields_at_node : (s : Seen) (types : List TypeInfo) (t : ℕ)
-    (found : Option (Bor (List Field))) (fs : Bor (List Field)) → AtNode s types t →
-    option_map (λ x. x.now) found ≡ composite_fields (shape types t) → found ≡ Some fs →
-    composite_fields (shape s.types s.ty) ≡ Some fs.now
-fields_at_node s types t found fs at e f =
-    rw (← at.0, ← at.1) (sym e ∙ ap (option_map (λ (x : Bor (List Field)). x.now)) f)
-
--- where no fields were found at a node's type, the type is no composite
-pub no_fields_at_node : (s : Seen) (types : List TypeInfo) (t : ℕ)
-    (found : Option (Bor (List Field))) → AtNode s types t →
-    option_map (λ x. x.now) found ≡ composite_fields (shape types t) → found ≡ None →
-    composite_fields (shape s.types s.ty) ≡ None
-no_fields_at_node s types t found at e f =
-    rw (← at.0, ← at.1) (sym e ∙ ap (option_map (λ (x : Bor (List Field)). x.now)) f)
 
 -- a composite's value has the JSON of its fields
 pub fields_are : (s : Seen) (fs : List Field) → composite_fields (shape s.types s.ty) ≡ Some fs →
@@ -385,21 +356,11 @@ no_fields_json (Some (Def.Composite gs)) ds e = absurd cc
 no_fields_json _ ds e = refl
 
 -- a node of an arm has that arm in its definition, so it was found
-pub arm_there : (s : Seen) (q : ℕ) (types : List TypeInfo) (t : ℕ) (found : Option (Bor Arm)) →
-    AtNode s types t → option_map (λ x. x.now) found ≡ defined_arm (shape types t) q →
+pub arm_there : (s : Seen) (q : ℕ) (found : Option (Bor Arm)) →
+    option_map (λ x. x.now) found ≡ defined_arm (shape s.types s.ty) q →
     JsonReported s.types s.ty s.tree (what.Arm q) → IsSome found
-arm_there s q types t None at e h = let no : None ≡ Some h.0 = e
-    ∙ ap (λ (r : List TypeInfo). defined_arm (shape r t) q) at.0
-    ∙ ap (λ (u : ℕ). defined_arm (shape s.types u) q) at.1 ∙ h.1 in absurd cc
-arm_there s q types t (Some a) at e h = refl
-
--- the arm that was found is the node's
-pub arm_at_node : (s : Seen) (q : ℕ) (types : List TypeInfo) (t : ℕ) (found : Option (Bor Arm))
-    (a : Bor Arm) → AtNode s types t →
-    option_map (λ x. x.now) found ≡ defined_arm (shape types t) q → found ≡ Some a →
-    defined_arm (shape s.types s.ty) q ≡ Some a.now
-arm_at_node s q types t found a at e f =
-    rw (← at.0, ← at.1) (sym e ∙ ap (option_map (λ (x : Bor Arm). x.now)) f)
+arm_there s q None e h = let no : None ≡ Some h.0 = e ∙ h.1 in absurd cc
+arm_there s q (Some a) e h = refl
 
 -- a node of an arm is an object with the name of the arm in its definition as the one key
 pub arm_is : (s : Seen) (q : ℕ) (a : Arm) → defined_arm (shape s.types s.ty) q ≡ Some a →
@@ -411,15 +372,15 @@ arm_is s q a e h =
     h.2 ∙ ap (λ (x : Arm). json.object
     (member x.name (fields_json x.fields (jsons (children_of s))) no_members)) is
 
--- ---- the fields at a place
+-- ---- the fields of a type
 
--- the fields of a composite are those at its place, whatever arm is asked for
+-- the fields of a composite are its own, whatever arm is asked for
 pub composite_fields_in : (d : Option TypeDef) (q : ℕ) (fs : List Field) →
     composite_fields d ≡ Some fs → fields_in d q ≡ Some fs
 composite_fields_in (Some (Def.Composite gs)) q fs e = e
 composite_fields_in _ q fs e = absurd cc
 
--- the fields of an arm of a variant are those at the arm's place
+-- the fields of an arm of a variant are the arm's
 pub arm_fields_in : (d : Option TypeDef) (q : ℕ) (a : Arm) → defined_arm d q ≡ Some a →
     fields_in d q ≡ Some a.fields
 arm_fields_in (Some (Def.Variant arms)) q a e = ap (option_map (λ (x : Arm). x.fields)) e

@@ -1,4 +1,4 @@
-//! What the definition of a type says of the JSON of its values.
+//! Looks up what the JSON of a node needs of the definition of its type.
 
 ghost use Rattle.std.specs.Prelude.{◌≡◌, ◌<◌, ◌^◌, length, option_map, IfSome};
 ghost use Rattle.registry_core.specs.Fits.{FitsDefinition};
@@ -10,9 +10,10 @@ ghost use Rattle.json_core.specs.Defined.{composite_fields};
 
 use crate::integer_json::IntegerJson;
 use registry_core::{Arm, Field, Primitive, PrimitiveKind, TypeDef, TypeId};
+use value_core::NodeRef;
 use widths_core::Checked;
 
-/// What a type is made of, where it is a position.
+/// Returns the definition of a type, if the registry has the type.
 fn definition(checked: &Checked, ty: TypeId) -> Option<&TypeDef>
     ensures known { option_map (λ d. d.now) result ≡ shape checked.now.types ty.0 }
     ensures fits { IfSome result (λ d. FitsDefinition d.now) }
@@ -33,45 +34,56 @@ fn primitive_json(primitive: Primitive) -> IntegerJson
     }
 }
 
-/// Returns how integers of the type stand in JSON.
-pub(crate) fn integer_json(checked: &Checked, ty: TypeId) -> IntegerJson
-    ensures { result ≡ integer_json (shape checked.now.types ty.0) }
+/// Returns how integers of the node's type stand in JSON.
+pub(crate) fn integer_json(checked: &Checked, node: &NodeRef<'_, '_>) -> IntegerJson
+    requires { checked.now.types ≡ node.now.types }
+    ensures { result ≡ integer_json (shape node.now.types node.now.ty) }
 {
-    match definition(checked, ty) {
+    match definition(checked, node.type_id()) {
         Some(TypeDef::Primitive(primitive)) => primitive_json(*primitive),
         _ => IntegerJson::Number,
     }
 }
 
-/// Returns how compact integers of the type stand in JSON.
-pub(crate) fn compact_json(checked: &Checked, ty: TypeId) -> IntegerJson
-    ensures { result ≡ compact_json (compact_target_of checked.now.types ty.0) }
+/// Returns how compact integers of the node's type stand in JSON.
+pub(crate) fn compact_json(checked: &Checked, node: &NodeRef<'_, '_>) -> IntegerJson
+    requires { checked.now.types ≡ node.now.types }
+    ensures { result ≡ compact_json (compact_target_of node.now.types node.now.ty) }
 {
-    match checked.compact_target(ty) {
+    match checked.compact_target(node.type_id()) {
         Some(target) => IntegerJson::of_width(target.bytes()),
         None => IntegerJson::Number,
     }
 }
 
-/// The arm at a position of a variant.
-pub(crate) fn defined_arm(checked: &Checked, ty: TypeId, position: u32) -> Option<&Arm>
+/// Returns the arm at a position of the node's type, if that is a variant.
+pub(crate) fn defined_arm<'r>(
+    checked: &'r Checked,
+    node: &NodeRef<'_, '_>,
+    position: u32,
+) -> Option<&'r Arm>
+    requires { checked.now.types ≡ node.now.types }
     ensures same { option_map (λ a. a.now) result
-        ≡ defined_arm (shape checked.now.types ty.0) position }
+        ≡ defined_arm (shape node.now.types node.now.ty) position }
     ensures few { IfSome result (λ a. length a.now.fields < 2 ^ 32) }
 {
-    match definition(checked, ty) {
+    match definition(checked, node.type_id()) {
         Some(TypeDef::Variant(arms)) => arms.as_slice().get(position as usize),
         _ => None,
     }
 }
 
-/// The fields of a composite, where the type is one.
-pub(crate) fn composite_fields(checked: &Checked, ty: TypeId) -> Option<&[Field]>
+/// Returns the fields of the node's type, if that is a composite.
+pub(crate) fn composite_fields<'r>(
+    checked: &'r Checked,
+    node: &NodeRef<'_, '_>,
+) -> Option<&'r [Field]>
+    requires { checked.now.types ≡ node.now.types }
     ensures same { option_map (λ fs. fs.now) result
-        ≡ composite_fields (shape checked.now.types ty.0) }
+        ≡ composite_fields (shape node.now.types node.now.ty) }
     ensures few { IfSome result (λ fs. length fs.now < 2 ^ 32) }
 {
-    match definition(checked, ty) {
+    match definition(checked, node.type_id()) {
         Some(TypeDef::Composite(fields)) => Some(fields.as_slice()),
         _ => None,
     }

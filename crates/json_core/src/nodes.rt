@@ -14,7 +14,7 @@ use crate::fields::fields_json;
 use crate::hexadecimal::bytes_json;
 use crate::integers::{signed_json, unsigned_json, wide_json};
 use crate::orders::{FieldsOf, Orders};
-use registry_core::{Arm, TypeId};
+use registry_core::Arm;
 use serde_json::{Map, Value};
 use std::alloc::{AllocError, Allocator, Global};
 use value_core::{NodeRef, What};
@@ -41,14 +41,16 @@ fn single(alloc: Global, name: &str, value: Value) -> Result<Value, AllocError>
 fn parts_json(
     alloc: Global,
     orders: &mut Orders<'_>,
-    ty: TypeId,
+    node: &NodeRef<'_, '_>,
     items: Vec<Value>,
 ) -> Result<Value, AllocError>
+    requires { orders.old.types ≡ node.now.types }
     ensures json { IfOk result
-        (λ v. view v ≡ parts_json (shape orders.old.types ty.0) (items_view items.items)) }
+        (λ v. view v ≡ parts_json (shape node.now.types node.now.ty) (items_view items.items)) }
     ensures grows { Grows orders.old orders.new }
 {
-    match composite_fields(orders.checked(), ty) {
+    let ty = node.type_id();
+    match composite_fields(orders.checked(), node) {
         Some(fields) => fields_json(alloc, orders, FieldsOf { ty: ty.0, arm: 0 }, fields, items),
         None => Ok(Value::Array(items)),
     }
@@ -86,22 +88,21 @@ fn with_items(
     ensures grows { Grows orders.old orders.new }
 {
     let checked = orders.checked();
-    let ty = node.type_id();
     match node.what() {
         What::Empty => Ok(Value::Null),
         What::Bool(x) => Ok(Value::Bool(x)),
         What::Char(x) => char_json(alloc, x),
         What::Text => Value::try_from_str(alloc, node.text().unwrap()),
         What::Bytes => bytes_json(alloc, node.bytes().unwrap()),
-        What::Unsigned(n) => unsigned_json(alloc, integer_json(checked, ty), n),
-        What::Signed(n) => signed_json(alloc, integer_json(checked, ty), n),
+        What::Unsigned(n) => unsigned_json(alloc, integer_json(checked, node), n),
+        What::Signed(n) => signed_json(alloc, integer_json(checked, node), n),
         What::Wide(bytes) => wide_json(alloc, bytes),
-        What::Compact(n) => unsigned_json(alloc, compact_json(checked, ty), n),
-        What::Fields => parts_json(alloc, orders, ty, items),
+        What::Compact(n) => unsigned_json(alloc, compact_json(checked, node), n),
+        What::Fields => parts_json(alloc, orders, node, items),
         What::Arm { position } => {
-            let arm = defined_arm(checked, ty, position).unwrap();
+            let arm = defined_arm(checked, node, position).unwrap();
             let of = FieldsOf {
-                ty: ty.0,
+                ty: node.type_id().0,
                 arm: position,
             };
             arm_json(alloc, orders, of, arm, items)

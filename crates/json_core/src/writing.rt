@@ -309,11 +309,11 @@ pub(crate) fn write_node(
         What::Char(x) => write_char(out, x),
         What::Text => out.string(node.text().unwrap()),
         What::Bytes => write_bytes(out, node.bytes().unwrap()),
-        What::Unsigned(n) => write_unsigned(out, integer_json(checked, ty), n),
-        What::Signed(n) => write_signed(out, integer_json(checked, ty), n),
+        What::Unsigned(n) => write_unsigned(out, integer_json(checked, node), n),
+        What::Signed(n) => write_signed(out, integer_json(checked, node), n),
         What::Wide(bytes) => write_wide(out, bytes),
-        What::Compact(n) => write_unsigned(out, compact_json(checked, ty), n),
-        What::Fields => match composite_fields(checked, ty) {
+        What::Compact(n) => write_unsigned(out, compact_json(checked, node), n),
+        What::Fields => match composite_fields(checked, node) {
             Some(fields) => {
                 let of = FieldsOf { ty: ty.0, arm: 0 };
                 write_fields(out, orders, of, fields, node)
@@ -322,7 +322,7 @@ pub(crate) fn write_node(
         },
         What::Arm { position: arm } => {
             let of = FieldsOf { ty: ty.0, arm };
-            let arm = defined_arm(checked, ty, arm).unwrap();
+            let arm = defined_arm(checked, node, arm).unwrap();
             write_arm(out, orders, of, arm, node)
         }
         What::List => write_items(out, orders, node),

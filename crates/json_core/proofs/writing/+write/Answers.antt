@@ -1,5 +1,6 @@
 use Rattle.std.proofs.Common.{◌≡◌, [], ◌∷◌, ◌+◌, length, map, drop, rules, arith, inl, inr, refl}
-use Rattle.std.proofs.Common.{ap, ap₂, sym, ◌∙◌, subst}
+use Rattle.std.proofs.Common.{ap, ap₂, sym, ◌∙◌, subst, option_map, Bor, List}
+use Rattle.registry_core.specs.declared.definition.Field.{Field}
 use Rattle.std.specs.Prelude.{slice_range}
 use Rattle.std.specs.Slice.Iter.{iter_rest}
 use Rattle.std.specs.Int.{w128}
@@ -23,9 +24,9 @@ use Rattle.json_core.proofs.Known.{grows_not, grows_again}
 use Rattle.json_core.proofs.PlainNames.{AllPlain, plain_names, plain_rest, plain_first, plain_at}
 use Rattle.json_core.proofs.Ordered.{are_named, positions_are_named, positions_count}
 use Rattle.json_core.proofs.Ordered.{unnamed_json_is, in_order_json_is, sorted_json_is}
-use Rattle.json_core.proofs.Reported.{reported, shown_here, compact_here, text_is, bytes_are}
-use Rattle.json_core.proofs.Reported.{fields_at_node, no_fields_at_node, fields_are, no_fields_json}
-use Rattle.json_core.proofs.Reported.{arm_there, arm_at_node, arm_is, arm_fields_in, composite_fields_in}
+use Rattle.json_core.proofs.Reported.{reported, text_is, bytes_are, found_is, fields_are}
+use Rattle.json_core.proofs.Reported.{no_fields_json, arm_there, arm_is, arm_fields_in}
+use Rattle.json_core.proofs.Reported.{composite_fields_in}
 use Rattle.json_core.proofs.Turns.{name_is, in_order_turn, item_turn, array_whole, turn_at}
 use Rattle.json_core.proofs.Turns.{named_after, name_read, sorted_turn, object_whole}
 use Rattle.json_core.proofs.Turns.{member_whole, array_member_whole}
@@ -203,36 +204,25 @@ write_arm-returns-in_ok-write_sorted-in-Sorted-clause-adds t c =
 pub write_node-write_unsigned-requires : goal.write_node-write_unsigned-requires
 write_node-write_unsigned-requires t c =
     λ e. (reported c.args.node.now _ c.in-Unsigned.ensures.value c.in-Unsigned.ensures.same).0
-    (sym (shown_here c.args.node.now _ _ _ (
-      c.checked-checked.ensures ∙ c.requires,
-      c.type_id-ty.ensures.same,
-    ) c.integer_json.ensures) ∙ e)
+    (sym c.integer_json.ensures ∙ e)
 
 pub write_node-write_signed-requires : goal.write_node-write_signed-requires
 write_node-write_signed-requires t c =
     λ e. rw (to_z-of_z w128 c.in-Signed.n (search rules))
     ((reported c.args.node.now _ c.in-Signed.ensures.value c.in-Signed.ensures.same).0
-    (sym (shown_here c.args.node.now _ _ _ (
-      c.checked-checked.ensures ∙ c.requires,
-      c.type_id-ty.ensures.same,
-    ) c.integer_json-in-Signed.ensures) ∙ e))
+    (sym c.integer_json-in-Signed.ensures ∙ e))
 
 pub write_node-write_unsigned-requires-in-Compact :
     goal.write_node-write_unsigned-requires-in-Compact
 write_node-write_unsigned-requires-in-Compact t c =
     λ e. (reported c.args.node.now _ c.in-Compact.ensures.value c.in-Compact.ensures.same).0
-    (sym (compact_here c.args.node.now _ _ _ (
-      c.checked-checked.ensures ∙ c.requires,
-      c.type_id-ty.ensures.same,
-    ) c.compact_json.ensures) ∙ e)
+    (sym c.compact_json.ensures ∙ e)
 
 pub write_node-write_fields-requires : goal.write_node-write_fields-requires
 write_node-write_fields-requires t c =
     let s = c.args.node.now in
     let fs = c.in-Some.fields.now in
-    let at = fields_at_node s _ _ c.composite_fields.result c.in-Some.fields
-    (c.checked-checked.ensures ∙ c.requires, c.type_id-ty.ensures.same)
-    c.composite_fields.ensures.same c.in-Some.is in
+    let at = found_is c.composite_fields.ensures.same c.in-Some.is in
     let few = c.composite_fields.ensures.few in (
       omega arith,
       (
@@ -248,19 +238,14 @@ write_node-write_fields-requires t c =
     )
 
 pub write_node-unwrap-arm-requires : goal.write_node-unwrap-arm-requires
-write_node-unwrap-arm-requires t c = arm_there c.args.node.now _ _ _ c.defined_arm.result (
-  c.checked-checked.ensures ∙ c.requires,
-  c.type_id-ty.ensures.same,
-) c.defined_arm.ensures.same
-    (reported c.args.node.now _ c.in-Arm.ensures.value c.in-Arm.ensures.same)
+write_node-unwrap-arm-requires t c = arm_there c.args.node.now _ c.defined_arm.result
+    c.defined_arm.ensures.same (reported c.args.node.now _ c.in-Arm.ensures.value c.in-Arm.ensures.same)
 
 pub write_node-write_arm-requires : goal.write_node-write_arm-requires
 write_node-write_arm-requires t c =
     let s = c.args.node.now in
     let a = c.unwrap-arm.result.now in
-    let at = arm_at_node s _ _ _ c.defined_arm.result c.unwrap-arm.result
-    (c.checked-checked.ensures ∙ c.requires, c.type_id-ty.ensures.same)
-    c.defined_arm.ensures.same c.unwrap-arm.ensures in
+    let at = found_is c.defined_arm.ensures.same c.unwrap-arm.ensures in
     let few = c.defined_arm.ensures.few in (
       omega arith,
       (
@@ -307,21 +292,13 @@ write_node-returns-in-Bytes-clause-adds t c =
 pub write_node-returns-in-Unsigned-clause-adds : goal.write_node-returns-in-Unsigned-clause-adds
 write_node-returns-in-Unsigned-clause-adds t c = rw (
   (reported c.args.node.now _ c.in-Unsigned.ensures.value c.in-Unsigned.ensures.same).1,
-  ←
-      shown_here c.args.node.now _ _ _ (
-        c.checked-checked.ensures ∙ c.requires,
-        c.type_id-ty.ensures.same,
-      ) c.integer_json.ensures,
+  ← c.integer_json.ensures,
 ) c.write_unsigned.ensures
 
 pub write_node-returns-in-Signed-clause-adds : goal.write_node-returns-in-Signed-clause-adds
 write_node-returns-in-Signed-clause-adds t c = rw (
   (reported c.args.node.now _ c.in-Signed.ensures.value c.in-Signed.ensures.same).1,
-  ←
-      shown_here c.args.node.now _ _ _ (
-        c.checked-checked.ensures ∙ c.requires,
-        c.type_id-ty.ensures.same,
-      ) c.integer_json-in-Signed.ensures,
+  ← c.integer_json-in-Signed.ensures,
 ) (rw (to_z-of_z w128 c.in-Signed.n (search rules)) at c.write_signed.ensures)
 
 pub write_node-returns-in-Wide-clause-adds : goal.write_node-returns-in-Wide-clause-adds
@@ -332,28 +309,21 @@ write_node-returns-in-Wide-clause-adds t c =
 pub write_node-returns-in-Compact-clause-adds : goal.write_node-returns-in-Compact-clause-adds
 write_node-returns-in-Compact-clause-adds t c = rw (
   (reported c.args.node.now _ c.in-Compact.ensures.value c.in-Compact.ensures.same).1,
-  ←
-      compact_here c.args.node.now _ _ _ (
-        c.checked-checked.ensures ∙ c.requires,
-        c.type_id-ty.ensures.same,
-      ) c.compact_json.ensures,
+  ← c.compact_json.ensures,
 ) c.write_unsigned-in-Compact.ensures
 
 pub write_node-returns-in-Some-clause-adds : goal.write_node-returns-in-Some-clause-adds
 write_node-returns-in-Some-clause-adds t c =
     let s = c.args.node.now in
-    let at = fields_at_node s _ _ c.composite_fields.result c.in-Some.fields
-    (c.checked-checked.ensures ∙ c.requires, c.type_id-ty.ensures.same)
-    c.composite_fields.ensures.same c.in-Some.is in
+    let at = found_is c.composite_fields.ensures.same c.in-Some.is in
     rw (fields_are s c.in-Some.fields.now at
     (reported s _ c.in-Fields.ensures.value c.in-Fields.ensures.same)) c.write_fields.ensures.adds
 
 pub write_node-returns-in-None-clause-adds : goal.write_node-returns-in-None-clause-adds
 write_node-returns-in-None-clause-adds t c =
     let s = c.args.node.now in
-    let at = no_fields_at_node s _ _ c.composite_fields.result
-    (c.checked-checked.ensures ∙ c.requires, c.type_id-ty.ensures.same)
-    c.composite_fields.ensures.same c.in-None.is in
+    let at = sym c.composite_fields.ensures.same
+    ∙ ap (option_map (λ (x : Bor (List Field)). x.now)) c.in-None.is in
     rw (
       reported s _ c.in-Fields.ensures.value c.in-Fields.ensures.same,
       no_fields_json (shape s.types s.ty) (jsons (children_of s)) at,
@@ -362,9 +332,7 @@ write_node-returns-in-None-clause-adds t c =
 pub write_node-returns-in-Arm-clause-adds : goal.write_node-returns-in-Arm-clause-adds
 write_node-returns-in-Arm-clause-adds t c =
     let s = c.args.node.now in
-    let at = arm_at_node s _ _ _ c.defined_arm.result c.unwrap-arm.result
-    (c.checked-checked.ensures ∙ c.requires, c.type_id-ty.ensures.same)
-    c.defined_arm.ensures.same c.unwrap-arm.ensures in
+    let at = found_is c.defined_arm.ensures.same c.unwrap-arm.ensures in
     rw (arm_is s c.in-Arm.arm c.unwrap-arm.result.now at
     (reported s _ c.in-Arm.ensures.value c.in-Arm.ensures.same)) c.write_arm.ensures.adds
 
