@@ -1,6 +1,6 @@
 -- A text is put to the front of memory.
-use Rattle.std.proofs.Common.{◌≡◌, ℕ, ◌+◌, ◌*◌, ◌≤◌, List, [], ◌∷◌, ◌++◌, length, take, drop, inl}
-use Rattle.std.proofs.Common.{ap, ap₂, refl, sym, ◌∙◌, arith, length-append, take-append-drop}
+use Rattle.std.proofs.Common.{◌≡◌, ℕ, ◌+◌, ◌*◌, List, [], ◌∷◌, ◌++◌, length, take, drop, inl}
+use Rattle.std.proofs.Common.{ap, ap₂, sym, ◌∙◌, arith, length-append, take-append-drop}
 use Rattle.std.proofs.Common.{get_or, Option, Some, option_map, Bor, Fits, w8}
 use Rattle.hex.specs.Hex.{encode_lower, lower_digits}
 use Rattle.hex.proofs.HexLemmas.{length-encode_with}

@@ -44,7 +44,7 @@ keys_stay ps more fs (keys.Sorted start) h = (
   h.1 ∙ ap Some (sym (same_range ps more start (length fs) h.0)),
 )
 
--- the same where a place may have no fields
+-- the same where there may be no such fields
 keys_of_stay : (ps more : List ℕ) (o : Option (List Field)) (k : Known) → AreKeysOf ps o k →
     AreKeysOf (ps ++ more) o k
 keys_of_stay ps more None k h = tt
@@ -103,7 +103,7 @@ grows_again a b c g h = record {
       ∙ append_assoc a.positions g.more h.more;
 }
 
--- ---- by the place
+-- ---- by whose fields they are
 
 module _ {R : FieldsOf → FieldsOf → Ordering} (exact : CmpEqualImpliesEq R) where
   -- what is found is known
@@ -123,7 +123,7 @@ module _ {R : FieldsOf → FieldsOf → Ordering} (exact : CmpEqualImpliesEq R) 
         (subst (AreKeysOf ps (fields_at r x.0)) same h.0)
     go Greater is later f = later f
 
-  -- what is known stays right where the keys at one more place are kept that are right
+  -- what is known stays right where the keys of more fields are kept that are right
   pub known_insert : (r : List TypeInfo) (ps : List ℕ) (es : List (FieldsOf × Known)) (p : FieldsOf)
       (k : Known) → AreKnownOrders r ps es → AreKeysOf ps (fields_at r p) k →
       AreKnownOrders r ps (insert_entry R es p k)
@@ -143,7 +143,7 @@ module _ {R : FieldsOf → FieldsOf → Ordering} (exact : CmpEqualImpliesEq R) 
   known_looked_up r ps es p None h e = tt
   known_looked_up r ps es p (Some k) h e = known_found r ps es p k h (sym e)
 
--- a place is the two numbers in it
+-- the two numbers determine whose fields they are
 pub exact_fields_of : CmpEqualImpliesEq
     (λ (p q : FieldsOf). ordering_then (nat_cmp p.ty q.ty) (nat_cmp p.arm q.arm))
 exact_fields_of p q e = go (nat_cmp p.ty q.ty) refl e where

@@ -1,8 +1,8 @@
 -- A node of a value, by what it is: the JSON that its definition and its children give is that of
 -- the value.
-use Rattle.std.proofs.Common.{◌≡◌, ℕ, ◌-◌, ◌*◌, ◌^◌, ◌<◌, ◌≤◌, ◌⊎◌, Bool, true, false, cond, List}
+use Rattle.std.proofs.Common.{◌≡◌, ℕ, ◌-◌, ◌*◌, ◌^◌, ◌<◌, ◌≤◌, Bool, true, false, cond, List}
 use Rattle.std.proofs.Common.{length, Option, Some, None, refl, sym, ap, subst, ◌∙◌, arith, inl}
-use Rattle.std.proofs.Common.{inr, true≢false, Bor, option_map}
+use Rattle.std.proofs.Common.{inr, Bor, option_map}
 use Rattle.std.specs.Option.{IsSome}
 use Rattle.std.proofs.Math.Nat.{pow-le-pow_right}
 use Rattle.std.proofs.lemmas.Bool.{leb-true, ltb-true, ltb-false}
@@ -23,11 +23,9 @@ use Rattle.registry_core.specs.declared.definition.Arm.{Arm}
 use Rattle.registry_core.specs.declared.definition.Field.{Field}
 use Rattle.registry_core.specs.declared.definition.TypeDef.{TypeDef}
 use Rattle.registry_core.specs.declared.definition.TypeDef.TheVariants as Def
-use Rattle.registry_core.specs.Kinds.{kind_of, width_bytes}
+use Rattle.registry_core.specs.Kinds.{kind_of}
 use Rattle.registry_core.specs.declared.kind.PrimitiveKind.{PrimitiveKind}
 use Rattle.registry_core.specs.declared.kind.PrimitiveKind.TheVariants as K
-use Rattle.registry_core.specs.declared.kind.IntegerWidth.{IntegerWidth}
-use Rattle.registry_core.specs.declared.kind.IntegerWidth.TheVariants as width
 use Rattle.registry_core.specs.declared.type_info.TypeInfo.{TypeInfo}
 use Rattle.graph_core.specs.Types.{shape, field_types}
 use Rattle.widths_core.specs.Arms.{arm_of}

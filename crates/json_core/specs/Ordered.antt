@@ -95,7 +95,7 @@ ArePlain fs = (i : ℕ) → i < length fs → escape (name_at fs i) ≡ name_at 
 abbrev pub IsKnown : List ℕ → List Field → Known → Type 0
 IsKnown ps fs k = AreKeys ps fs k.keys × OnPlain k.escapes (ArePlain fs)
 
--- those of the fields at a place, where it has any
+-- those of the fields, if there are such
 abbrev pub AreKeysOf : List ℕ → Option (List Field) → Known → Type 0
 AreKeysOf ps None k = Unit {0}
 AreKeysOf ps (Some fs) k = IsKnown ps fs k

@@ -14,7 +14,7 @@ pub(crate) enum IntegerJson {
 impl IntegerJson {
     ghost use Rattle.json_core.specs.Defined.{width_json};
 
-    /// Returns how integers of so many bytes stand in JSON: above eight bytes as a text.
+    /// Returns how integers of so many bytes stand in JSON: of more than eight as a text.
     pub(crate) fn of_width(bytes: usize) -> IntegerJson
         ensures { result ≡ width_json bytes }
     {

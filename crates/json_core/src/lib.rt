@@ -1,4 +1,4 @@
-//! Shows a value as JSON: as a tree of `serde_json`, as text, and as text in a sink or in memory.
+//! A value as JSON: as a tree of `serde_json`, as text, and as text in a sink or in memory.
 #![tactic(auto)]
 
 mod defined;

@@ -19,7 +19,7 @@ use serde_json::{Map, Value};
 use std::alloc::{AllocError, Allocator, Global};
 use value_core::{NodeRef, What};
 
-/// A text of one character.
+/// Returns a text of one character.
 fn char_json(alloc: Global, x: char) -> Result<Value, AllocError>
     ensures { IfOk result (λ v. view v ≡ string (encode_utf8 x)) }
 {
@@ -28,7 +28,7 @@ fn char_json(alloc: Global, x: char) -> Result<Value, AllocError>
     Ok(Value::String(text))
 }
 
-/// An object of one member.
+/// Returns an object of one member.
 fn single(alloc: Global, name: &str, value: Value) -> Result<Value, AllocError>
     ensures { IfOk result (λ v. view v ≡ object (member name.now (view value) no_members)) }
 {
@@ -37,7 +37,7 @@ fn single(alloc: Global, name: &str, value: Value) -> Result<Value, AllocError>
     Ok(Value::Object(members))
 }
 
-/// The value of a composite or a tuple.
+/// Returns the value of a composite or a tuple, given its parts.
 fn parts_json(
     alloc: Global,
     orders: &mut Orders<'_>,
@@ -56,7 +56,7 @@ fn parts_json(
     }
 }
 
-/// The value of an arm: an object with the arm's name as its one key.
+/// Returns the value of an arm: an object whose one key is the arm's name.
 fn arm_json(
     alloc: Global,
     orders: &mut Orders<'_>,
@@ -75,7 +75,7 @@ fn arm_json(
     single(alloc, arm.name.as_str(), fields)
 }
 
-/// A node as JSON, where these are its children as JSON, in order.
+/// Returns a node as JSON, given its children as JSON, in order.
 fn with_items(
     alloc: Global,
     orders: &mut Orders<'_>,
@@ -112,7 +112,7 @@ fn with_items(
     }
 }
 
-/// A node and all that is below it as JSON. It calls itself for each child, so no deeper than the value's levels.
+/// Returns a node and all that is below it as JSON. The calls nest as deep as the value.
 fn node_json(
     alloc: Global,
     orders: &mut Orders<'_>,

@@ -1,4 +1,4 @@
-//! A node's JSON, written token by token.
+//! Writes a node's JSON token by token.
 
 ghost use Rattle.std.specs.Prelude.{◌≡◌, ◌<◌, ◌^◌, [], ◌∷◌, Some, length, map, codes, IfOk};
 ghost use Rattle.std.specs.Prelude.{OnOk, FitsSigned, ◌⊎◌, slice_get};
@@ -28,7 +28,7 @@ use std::alloc::{AllocError, Global};
 use token_core::{Escapes, Output};
 use value_core::{NodeRef, What};
 
-/// An unsigned integer: a number or a text of its decimal digits.
+/// Writes an unsigned integer as a number or as a text of its decimal digits.
 fn write_unsigned(out: &mut Output, shown: IntegerJson, n: u128) -> Result<(), AllocError>
     requires { shown ≡ Number → n < 2 ^ 64 }
     ensures { AddsValue result out.old out.new (unsigned_by shown n) }
@@ -39,7 +39,7 @@ fn write_unsigned(out: &mut Output, shown: IntegerJson, n: u128) -> Result<(), A
     }
 }
 
-/// A signed integer: a number or a text of its decimal digits.
+/// Writes a signed integer as a number or as a text of its decimal digits.
 fn write_signed(out: &mut Output, shown: IntegerJson, n: i128) -> Result<(), AllocError>
     requires { shown ≡ Number → FitsSigned w64 n }
     ensures { AddsValue result out.old out.new (signed_by shown n) }
@@ -50,14 +50,14 @@ fn write_signed(out: &mut Output, shown: IntegerJson, n: i128) -> Result<(), All
     }
 }
 
-/// A run of bytes, in hexadecimal.
+/// Writes a run of bytes in hexadecimal.
 fn write_bytes(out: &mut Output, bytes: &[u8]) -> Result<(), AllocError>
     ensures { AddsValue result out.old out.new (bytes_json bytes.now) }
 {
     out.hex(bytes)
 }
 
-/// An integer of 256 bits, whose bytes are here with the lowest first.
+/// Writes an integer of 256 bits as a text. Its lowest byte is the first.
 fn write_wide(out: &mut Output, bytes: [u8; 32]) -> Result<(), AllocError>
     ensures { AddsValue result out.old out.new (wide_json bytes) }
 {
@@ -66,7 +66,7 @@ fn write_wide(out: &mut Output, bytes: [u8; 32]) -> Result<(), AllocError>
     write_bytes(out, &highest_first)
 }
 
-/// A text of one character.
+/// Writes a text of one character.
 fn write_char(out: &mut Output, x: char) -> Result<(), AllocError>
     ensures { AddsTokens result out.old out.new (string (encode_utf8 x) ∷ []) }
 {
@@ -74,7 +74,7 @@ fn write_char(out: &mut Output, x: char) -> Result<(), AllocError>
     out.string(x.encode_utf8(&mut bytes))
 }
 
-/// How many there are, where the elements take no bytes.
+/// Writes the number of elements, if they take no bytes.
 fn write_count(out: &mut Output, count: u32) -> Result<(), AllocError>
     ensures { AddsValue result out.old out.new
         (object (member (codes "count") (number (unsigned count)) no_members)) }
@@ -84,7 +84,7 @@ fn write_count(out: &mut Output, count: u32) -> Result<(), AllocError>
     out.end_object()
 }
 
-/// The child at a position, after a step past each one before it.
+/// Returns the child at a position, after a step past each one before it.
 #[inline(always)]
 fn child_at<'v, 'r>(node: &NodeRef<'v, 'r>, position: usize) -> NodeRef<'v, 'r>
     requires { position < length (children_of node.now) }
@@ -93,8 +93,8 @@ fn child_at<'v, 'r>(node: &NodeRef<'v, 'r>, position: usize) -> NodeRef<'v, 'r>
     node.children().nth(position).unwrap()
 }
 
-/// The children of a node, in order, where there are so many of them; few are not listed, since a step past each costs less
-/// than memory for a list.
+/// Returns the children of a node, in order, if they are many. Few are not listed, because a step
+/// past each costs less than memory for a list.
 fn children<'v, 'r>(
     alloc: Global,
     count: usize,
@@ -112,8 +112,8 @@ fn children<'v, 'r>(
     Ok(children)
 }
 
-/// The child at a position and all that is below it: it is in the list, where there is one, and else it comes after a step
-/// past each child before it.
+/// Writes the child at a position and all that is below it. It takes the child from the list, if
+/// there is one, or else steps past each child before it.
 #[cycle(write)]
 #[inline(always)]
 fn write_child(
@@ -136,7 +136,7 @@ fn write_child(
     }
 }
 
-/// The children of a node, in order, as the items of an array that began, which doesn't end.
+/// Writes the children of a node, in order, as items of an array that has begun.
 #[cycle(write)]
 #[inline(always)]
 fn write_each(
@@ -155,7 +155,7 @@ fn write_each(
     Ok(())
 }
 
-/// The children of a node as an array.
+/// Writes the children of a node as an array.
 #[cycle(write)]
 fn write_items(
     out: &mut Output,
@@ -172,7 +172,8 @@ fn write_items(
     out.end_array()
 }
 
-/// The children of a node as an object, each at the name of its field, where the names are in order.
+/// Writes the children of a node as an object, each at the name of its field, if the names are in
+/// order.
 #[cycle(write)]
 #[inline(always)]
 fn write_in_order(
@@ -198,7 +199,8 @@ fn write_in_order(
     out.end_object()
 }
 
-/// The children of a node as an object, each at the name of its field, in the order that is kept from `start` on.
+/// Writes the children of a node as an object, each at the name of its field, in the order that is
+/// kept from `start` on.
 #[cycle(write)]
 fn write_sorted(
     out: &mut Output,
@@ -226,7 +228,7 @@ fn write_sorted(
     out.end_object()
 }
 
-/// The children of a node as the values of the fields at a place.
+/// Writes the children of a node as the values of fields.
 #[cycle(write)]
 fn write_fields(
     out: &mut Output,
@@ -251,7 +253,8 @@ fn write_fields(
     }
 }
 
-/// The children of a node as the values of the fields of an arm: an object whose one key is the arm's name.
+/// Writes the children of a node as the values of an arm's fields: an object whose one key is the
+/// arm's name.
 #[cycle(write)]
 fn write_arm(
     out: &mut Output,
@@ -289,7 +292,7 @@ fn write_arm(
     }
 }
 
-/// A node and all that is below it. It stands in the loops over children, so that a leaf costs no call of its own.
+/// Writes a node and all that is below it.
 #[cycle(write)]
 #[inline(always)]
 pub(crate) fn write_node(
@@ -301,6 +304,7 @@ pub(crate) fn write_node(
     ensures adds { AddsValue result out.old out.new (json_seen node.now) }
     ensures grows { Grows orders.old orders.new }
 {
+    // Inlined into the loops over children, so that a leaf costs no call.
     let checked = orders.checked();
     let ty = node.type_id();
     match node.what() {

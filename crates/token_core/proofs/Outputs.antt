@@ -1,5 +1,5 @@
 -- Text that grows by tokens.
-use Rattle.std.proofs.Common.{◌≡◌, ℕ, suc, ◌+◌, ◌-◌, ◌/◌, ◌%◌, zero, get_or, slice_index, Fits, w8}
+use Rattle.std.proofs.Common.{◌≡◌, ℕ, suc, ◌+◌, ◌/◌, ◌%◌, zero, get_or, slice_index, Fits, w8}
 use Rattle.std.proofs.Common.{inl, inr, ◌^◌, ◌<◌, ◌≤◌, Bool, true, false, cond, ◌&&◌, ℤ, pos}
 use Rattle.std.proofs.Common.{negsuc, FitsSigned, List, [], ◌∷◌, ◌++◌, length, take, drop, decimal}
 use Rattle.std.proofs.Common.{refl, ap, ap₂, sym, ◌∙◌, subst, arith, IsUtf8, append_assoc}

@@ -1,4 +1,4 @@
-//! JSON text that grows by tokens.
+//! A writer of JSON text, token by token.
 #![tactic(auto)]
 
 mod digits;

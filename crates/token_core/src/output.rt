@@ -1,6 +1,6 @@
-//! JSON text that grows by tokens.
+//! A writer of JSON text, token by token.
 
-ghost use Rattle.std.specs.Prelude.{◌≡◌, ◌+◌, ◌≤◌, ◌<◌, ◌++◌, [], ◌∷◌, true, false, codes, decimal};
+ghost use Rattle.std.specs.Prelude.{◌≡◌, ◌+◌, ◌≤◌, ◌++◌, [], ◌∷◌, false, codes, decimal};
 ghost use Rattle.std.specs.Prelude.{length, take, string_bytes, OnOk, IfOk};
 ghost use Rattle.std.specs.Bool.{OnTrue};
 ghost use Rattle.std.specs.Fmt.{signed_decimal};
@@ -19,27 +19,30 @@ use json::Writer;
 use std::alloc::{AllocError, Global};
 use std::marker::Model;
 
-/// So many zeros at most are put after a text beside those that a token asks for.
+/// The most zeros that are appended beyond those that a token needs.
 const AHEAD: usize = 16 * 1024;
 
-/// From so many bytes on a text is long.
+/// The length in bytes from which on the capacity grows by a quarter.
 const LONG: usize = 1024 * 1024;
 
-/// Zeros that are put after a text, to be written over.
+/// Zeros to append, which tokens overwrite.
 static ZEROS: [u8; 4096] = [0; 4096];
 
-/// JSON text that grows by tokens (RFC 8259): it places the commas and the colons, and leaves the nesting to its caller. It
-/// takes room for up to twice the text, a quarter more above a mebibyte, and for the longest text that is escaped.
+/// A writer of JSON text, token by token (RFC 8259). It places commas and colons; the caller nests
+/// arrays and objects.
 ///
-/// Each call that adds a token takes time in proportion to the token. It refuses with `AllocError` where memory was refused;
-/// nothing is promised of the text then, and it is to be dropped.
+/// The capacity is at most twice the length of the text, and above a mebibyte at most a quarter
+/// more. Besides, the writer allocates as much as the longest text with an escape. A method that
+/// appends a token takes time in proportion to the token.
+///
+/// After an `AllocError` the text is unspecified, and the writer is to be dropped.
 #[derive(Drop)]
 pub struct Output {
-    /// The text, and zeros after it to be written over, so that a token asks for room once.
+    /// The text, and zeros after it that tokens overwrite, so that a token asks for capacity once.
     bytes: Vec<u8>,
     len: usize,
     after_value: bool,
-    /// Where texts are escaped before they are put, kept for its room.
+    /// The buffer in which texts are escaped, kept for its capacity.
     escaped: Vec<u8>,
 }
 
@@ -55,7 +58,7 @@ impl Model for Output {
     ghost invariant = { λ o. (o.len ≤ length o.bytes.items) × IsUtf8 (take o.len o.bytes.items) };
 }
 
-/// Room for so many bytes after the first `len`.
+/// Ensures that `more` bytes follow the first `len`.
 #[inline(always)]
 fn make_room(bytes: &mut Vec<u8>, len: usize, more: usize) -> Result<(), AllocError>
     requires { len ≤ length bytes.old.items }
@@ -69,8 +72,8 @@ fn make_room(bytes: &mut Vec<u8>, len: usize, more: usize) -> Result<(), AllocEr
     grow(bytes, more)
 }
 
-/// So many zeros more, or as many as there is room for, up to `AHEAD`. The room doubles, and from `LONG` bytes on it
-/// grows by a quarter.
+/// Appends `more` zeros at least, and up to `AHEAD` if the capacity suffices. The capacity doubles,
+/// and from `LONG` bytes on it grows by a quarter.
 #[cold]
 #[inline(never)]
 fn grow(bytes: &mut Vec<u8>, more: usize) -> Result<(), AllocError>
@@ -105,14 +108,14 @@ fn is_known_plain(name: &str, escapes: Escapes) -> bool
     }
 }
 
-/// What a token is to the values around it.
+/// How a token stands to the values around it.
 #[derive(Clone, Copy)]
 enum Role {
-    /// It begins a value or a member that goes on. A comma comes before it if a value ended there.
+    /// Begins a value or a member. A comma comes before it if a value ended there.
     Opening,
-    /// It is a value. A comma comes before it if a value ended there.
+    /// Is a value. A comma comes before it if a value ended there.
     Value,
-    /// It ends a value, and no comma comes before it.
+    /// Ends a value. No comma comes before it.
     Closing,
 }
 
@@ -139,7 +142,11 @@ impl Role {
 impl Output {
     ghost use Rattle.token_core.specs.Tokens.{AddsTokens, put};
 
-    /// An empty text with room for so many bytes.
+    /// Returns a writer whose text is empty, with a capacity of `room` bytes.
+    ///
+    /// # Errors
+    ///
+    /// `AllocError` if an allocation fails.
     pub fn with_room(alloc: Global, room: usize) -> Result<Output, AllocError>
         ensures { IfOk result (λ o. o ≡ record { text = []; after_value = false }) }
     {
@@ -151,7 +158,7 @@ impl Output {
         })
     }
 
-    /// The text.
+    /// Returns the text.
     pub fn into_text(self) -> String
         ensures { string_bytes result ≡ self.text }
     {
@@ -173,8 +180,8 @@ impl Output {
         Ok(())
     }
 
-    /// These characters between quotes, where none of them needs an escape; `opening` has the first quote, and the brace in
-    /// front of a first key, and `closing` the second quote, a key's colon, and the bracket of an array after it.
+    /// Appends characters that need no escape. `opening` is the first quote, after the brace of a
+    /// first key. `closing` is the second quote, then a key's colon, and the `[` of an array after it.
     #[inline(always)]
     fn put_plain(
         &mut self,
@@ -196,7 +203,11 @@ impl Output {
         Ok(())
     }
 
-    /// An object begins.
+    /// Appends the `{` of an object.
+    ///
+    /// # Errors
+    ///
+    /// `AllocError` if an allocation fails.
     #[inline(always)]
     pub fn begin_object(&mut self) -> Result<(), AllocError>
         ensures { AddsTokens result self.old self.new (begin_object ∷ []) }
@@ -204,7 +215,11 @@ impl Output {
         self.put(Role::Opening, "{")
     }
 
-    /// The object that began last ends.
+    /// Appends the `}` of the object that began last.
+    ///
+    /// # Errors
+    ///
+    /// `AllocError` if an allocation fails.
     #[inline(always)]
     pub fn end_object(&mut self) -> Result<(), AllocError>
         ensures { AddsTokens result self.old self.new (end_object ∷ []) }
@@ -212,7 +227,11 @@ impl Output {
         self.put(Role::Closing, "}")
     }
 
-    /// An array begins.
+    /// Appends the `[` of an array.
+    ///
+    /// # Errors
+    ///
+    /// `AllocError` if an allocation fails.
     #[inline(always)]
     pub fn begin_array(&mut self) -> Result<(), AllocError>
         ensures { AddsTokens result self.old self.new (begin_array ∷ []) }
@@ -220,7 +239,11 @@ impl Output {
         self.put(Role::Opening, "[")
     }
 
-    /// The array that began last ends.
+    /// Appends the `]` of the array that began last.
+    ///
+    /// # Errors
+    ///
+    /// `AllocError` if an allocation fails.
     #[inline(always)]
     pub fn end_array(&mut self) -> Result<(), AllocError>
         ensures { AddsTokens result self.old self.new (end_array ∷ []) }
@@ -228,7 +251,11 @@ impl Output {
         self.put(Role::Closing, "]")
     }
 
-    /// `null`.
+    /// Appends `null`.
+    ///
+    /// # Errors
+    ///
+    /// `AllocError` if an allocation fails.
     #[inline(always)]
     pub fn null(&mut self) -> Result<(), AllocError>
         ensures { AddsTokens result self.old self.new (null ∷ []) }
@@ -236,7 +263,11 @@ impl Output {
         self.put(Role::Value, "null")
     }
 
-    /// `true` or `false`.
+    /// Appends `true` or `false`.
+    ///
+    /// # Errors
+    ///
+    /// `AllocError` if an allocation fails.
     #[inline(always)]
     pub fn boolean(&mut self, x: bool) -> Result<(), AllocError>
         ensures { AddsTokens result self.old self.new (boolean x ∷ []) }
@@ -244,7 +275,11 @@ impl Output {
         self.put(Role::Value, if x { "true" } else { "false" })
     }
 
-    /// A number from 0.
+    /// Appends an unsigned number.
+    ///
+    /// # Errors
+    ///
+    /// `AllocError` if an allocation fails.
     #[inline(always)]
     pub fn unsigned(&mut self, n: u64) -> Result<(), AllocError>
         ensures { AddsTokens result self.old self.new (number (decimal n) ∷ []) }
@@ -257,7 +292,11 @@ impl Output {
         Ok(())
     }
 
-    /// A number.
+    /// Appends a number.
+    ///
+    /// # Errors
+    ///
+    /// `AllocError` if an allocation fails.
     #[inline(always)]
     pub fn signed(&mut self, n: i64) -> Result<(), AllocError>
         ensures { AddsTokens result self.old self.new (number (signed_decimal n) ∷ []) }
@@ -266,7 +305,11 @@ impl Output {
         self.put(Role::Value, buffer.format(n))
     }
 
-    /// A number from 0 as a text of its digits.
+    /// Appends an unsigned number as a text of its decimal digits.
+    ///
+    /// # Errors
+    ///
+    /// `AllocError` if an allocation fails.
     pub fn quoted_unsigned(&mut self, n: u128) -> Result<(), AllocError>
         ensures { AddsTokens result self.old self.new (string (decimal n) ∷ []) }
     {
@@ -280,7 +323,11 @@ impl Output {
         Ok(())
     }
 
-    /// A number as a text of its digits.
+    /// Appends a number as a text of its decimal digits.
+    ///
+    /// # Errors
+    ///
+    /// `AllocError` if an allocation fails.
     pub fn quoted_signed(&mut self, n: i128) -> Result<(), AllocError>
         ensures { AddsTokens result self.old self.new (string (signed_decimal n) ∷ []) }
     {
@@ -288,7 +335,11 @@ impl Output {
         self.put_plain(Role::Value, "\"", buffer.format(n), "\"")
     }
 
-    /// A key and its colon.
+    /// Appends a key and its colon. It looks for escapes only if they are unknown.
+    ///
+    /// # Errors
+    ///
+    /// `AllocError` if an allocation fails.
     #[inline(always)]
     pub fn key(&mut self, name: &str, escapes: Escapes) -> Result<(), AllocError>
         requires { OnPlain escapes (escape name.now ≡ name.now) }
@@ -300,7 +351,11 @@ impl Output {
         self.escaped_key(name)
     }
 
-    /// An object begins, with a key and its colon.
+    /// Appends the `{` of an object, its first key, and the colon.
+    ///
+    /// # Errors
+    ///
+    /// `AllocError` if an allocation fails.
     #[inline(always)]
     pub fn begin_member(&mut self, name: &str) -> Result<(), AllocError>
         ensures { AddsTokens result self.old self.new (begin_object ∷ key name.now ∷ []) }
@@ -312,7 +367,11 @@ impl Output {
         self.escaped_key(name)
     }
 
-    /// An object begins, with a key and its colon, and then an array.
+    /// Appends the `{` of an object, its first key, the colon, and the `[` of an array.
+    ///
+    /// # Errors
+    ///
+    /// `AllocError` if an allocation fails.
     #[inline(always)]
     pub fn begin_array_member(&mut self, name: &str) -> Result<(), AllocError>
         ensures { AddsTokens result self.old self.new
@@ -326,7 +385,11 @@ impl Output {
         self.begin_array()
     }
 
-    /// An array ends, and the object that it is the last value of.
+    /// Appends the `]` of an array and the `}` of the object whose last value it is.
+    ///
+    /// # Errors
+    ///
+    /// `AllocError` if an allocation fails.
     #[inline(always)]
     pub fn end_array_member(&mut self) -> Result<(), AllocError>
         ensures { AddsTokens result self.old self.new (end_array ∷ end_object ∷ []) }
@@ -334,7 +397,7 @@ impl Output {
         self.put(Role::Closing, "]}")
     }
 
-    /// A key, some of whose characters need an escape, and its colon.
+    /// Appends a key that needs an escape, and its colon.
     #[inline(never)]
     fn escaped_key(&mut self, name: &str) -> Result<(), AllocError>
         ensures { AddsTokens result self.old self.new (key name.now ∷ []) }
@@ -349,7 +412,11 @@ impl Output {
         Ok(())
     }
 
-    /// A text.
+    /// Appends a text.
+    ///
+    /// # Errors
+    ///
+    /// `AllocError` if an allocation fails.
     #[inline(always)]
     pub fn string(&mut self, text: &str) -> Result<(), AllocError>
         ensures { AddsTokens result self.old self.new (string text.now ∷ []) }
@@ -361,7 +428,7 @@ impl Output {
         }
     }
 
-    /// A text, some of whose characters need an escape.
+    /// Appends a text that needs an escape.
     #[inline(never)]
     fn escaped(&mut self, text: &str) -> Result<(), AllocError>
         ensures { AddsTokens result self.old self.new (string text.now ∷ []) }
@@ -376,7 +443,11 @@ impl Output {
         Ok(())
     }
 
-    /// A text of `0x` and two hexadecimal digits for each byte.
+    /// Appends a text of `0x` and two hexadecimal digits for each byte.
+    ///
+    /// # Errors
+    ///
+    /// `AllocError` if an allocation fails, or if the text would be longer than a `usize` can say.
     pub fn hex(&mut self, bytes: &[u8]) -> Result<(), AllocError>
         ensures { AddsTokens result self.old self.new
             (string (codes "0x" ++ encode_lower bytes.now) ∷ []) }

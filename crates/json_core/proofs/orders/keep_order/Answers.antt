@@ -1,4 +1,4 @@
-use Rattle.std.proofs.Common.{◌≡◌, ◌++◌, ap, ◌∙◌}
+use Rattle.std.proofs.Common.{◌∙◌}
 use Rattle.json_core.proofs.Known.{counted_keys, sorted_keys}
 use Rattle.json_core.proofs.orders.keep_order.Goals as goal
 

@@ -1,4 +1,4 @@
-use Rattle.std.proofs.Common.{◌∷◌, [], codes, refl, ap, ◌∙◌, decimal}
+use Rattle.std.proofs.Common.{◌∷◌, [], codes, ap, ◌∙◌, decimal}
 use Rattle.std.proofs.lemmas.Result.{on_ok_weaker}
 use Rattle.json.specs.Token.{number}
 use Rattle.token_core.specs.Tokens.{prints}
