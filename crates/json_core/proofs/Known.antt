@@ -15,7 +15,7 @@ use Rattle.std.proofs.Math.Seq.{drop-append_seam, take-length}
 use Rattle.std.proofs.lemmas.Map.Lookups.{CmpEqualImpliesEq, exact_unsigned}
 use Rattle.registry_core.specs.declared.definition.Field.{Field}
 use Rattle.registry_core.specs.declared.type_info.TypeInfo.{TypeInfo}
-use Rattle.json_core.specs.declared.orders.Place.{Place}
+use Rattle.json_core.specs.declared.orders.FieldsOf.{FieldsOf}
 use Rattle.json_core.specs.declared.orders.Known.{Known}
 use Rattle.json_core.specs.declared.orders.Keys.{Keys}
 use Rattle.json_core.specs.declared.orders.Keys.TheVariants as keys
@@ -44,46 +44,46 @@ keys_stay ps more fs (keys.Sorted start) h = (
   h.1 ∙ ap Some (sym (same_range ps more start (length fs) h.0)),
 )
 
--- the same where a place may have no fields
+-- the same where there may be no such fields
 keys_of_stay : (ps more : List ℕ) (o : Option (List Field)) (k : Known) → AreKeysOf ps o k →
     AreKeysOf (ps ++ more) o k
 keys_of_stay ps more None k h = tt
 keys_of_stay ps more (Some fs) k h = (keys_stay ps more fs k.keys h.0, h.1)
 
 -- all entries that are right stay right where positions are appended
-known_stay : (r : List TypeInfo) (ps more : List ℕ) (es : List (Place × Known)) →
+known_stay : (r : List TypeInfo) (ps more : List ℕ) (es : List (FieldsOf × Known)) →
     AreKnownOrders r ps es → AreKnownOrders r (ps ++ more) es
 known_stay r ps more [] h = tt
 known_stay r ps more (e ∷ es) h =
     (keys_of_stay ps more (fields_at r e.0) e.1 h.0, known_stay r ps more es h.1)
 
 -- the same for positions that are known to be the old ones and more
-known_more : (r : List TypeInfo) (old new more : List ℕ) (es : List (Place × Known)) →
+known_more : (r : List TypeInfo) (old new more : List ℕ) (es : List (FieldsOf × Known)) →
     AreKnownOrders r old es → new ≡ old ++ more → AreKnownOrders r new es
 known_more r old new more es h e =
     subst (λ ps. AreKnownOrders r ps es) (sym e) (known_stay r old more es h)
 
 -- the same of what is in a slot
-slot_stays : (r : List TypeInfo) (ps more : List ℕ) (o : Option (Place × Known)) →
+slot_stays : (r : List TypeInfo) (ps more : List ℕ) (o : Option (FieldsOf × Known)) →
     IsKnownSlot r ps o → IsKnownSlot r (ps ++ more) o
 slot_stays r ps more None h = tt
 slot_stays r ps more (Some e) h = keys_of_stay ps more (fields_at r e.0) e.1 h
 
 -- and of all slots
-slots_stay : (r : List TypeInfo) (ps more : List ℕ) (ss : List (Option (Place × Known))) →
+slots_stay : (r : List TypeInfo) (ps more : List ℕ) (ss : List (Option (FieldsOf × Known))) →
     AreKnownSlots r ps ss → AreKnownSlots r (ps ++ more) ss
 slots_stay r ps more [] h = tt
 slots_stay r ps more (o ∷ ss) h = (slot_stays r ps more o h.0, slots_stay r ps more ss h.1)
 
 -- the same for positions that are known to be the old ones and more
-slots_more : (r : List TypeInfo) (old new more : List ℕ) (ss : List (Option (Place × Known))) →
+slots_more : (r : List TypeInfo) (old new more : List ℕ) (ss : List (Option (FieldsOf × Known))) →
     AreKnownSlots r old ss → new ≡ old ++ more → AreKnownSlots r new ss
 slots_more r old new more ss h e =
     subst (λ ps. AreKnownSlots r ps ss) (sym e) (slots_stay r old more ss h)
 
 -- and of both
-pub orders_more : (r : List TypeInfo) (old new more : List ℕ) (es : List (Place × Known))
-    (ss : List (Option (Place × Known))) → AreKnownOrders r old es × AreKnownSlots r old ss →
+pub orders_more : (r : List TypeInfo) (old new more : List ℕ) (es : List (FieldsOf × Known))
+    (ss : List (Option (FieldsOf × Known))) → AreKnownOrders r old es × AreKnownSlots r old ss →
     new ≡ old ++ more → AreKnownOrders r new es × AreKnownSlots r new ss
 orders_more r old new more es ss h e =
     (known_more r old new more es h.0 e, slots_more r old new more ss h.1 e)
@@ -103,11 +103,11 @@ grows_again a b c g h = record {
       ∙ append_assoc a.positions g.more h.more;
 }
 
--- ---- by the place
+-- ---- by whose fields they are
 
-module _ {R : Place → Place → Ordering} (exact : CmpEqualImpliesEq R) where
+module _ {R : FieldsOf → FieldsOf → Ordering} (exact : CmpEqualImpliesEq R) where
   -- what is found is known
-  known_found : (r : List TypeInfo) (ps : List ℕ) (es : List (Place × Known)) (p : Place)
+  known_found : (r : List TypeInfo) (ps : List ℕ) (es : List (FieldsOf × Known)) (p : FieldsOf)
       (k : Known) → AreKnownOrders r ps es → lookup (is_at (R p)) es ≡ Some k →
       AreKeysOf ps (fields_at r p) k
   known_found r ps [] p k h e = absurd cc
@@ -123,8 +123,8 @@ module _ {R : Place → Place → Ordering} (exact : CmpEqualImpliesEq R) where
         (subst (AreKeysOf ps (fields_at r x.0)) same h.0)
     go Greater is later f = later f
 
-  -- what is known stays right where the keys at one more place are kept that are right
-  pub known_insert : (r : List TypeInfo) (ps : List ℕ) (es : List (Place × Known)) (p : Place)
+  -- what is known stays right where the keys of more fields are kept that are right
+  pub known_insert : (r : List TypeInfo) (ps : List ℕ) (es : List (FieldsOf × Known)) (p : FieldsOf)
       (k : Known) → AreKnownOrders r ps es → AreKeysOf ps (fields_at r p) k →
       AreKnownOrders r ps (insert_entry R es p k)
   known_insert r ps [] p k h e = (e, tt)
@@ -137,16 +137,16 @@ module _ {R : Place → Place → Ordering} (exact : CmpEqualImpliesEq R) where
     go Greater is later = (h.0, later)
 
   -- what a look-up finds is known
-  pub known_looked_up : (r : List TypeInfo) (ps : List ℕ) (es : List (Place × Known)) (p : Place)
+  pub known_looked_up : (r : List TypeInfo) (ps : List ℕ) (es : List (FieldsOf × Known)) (p : FieldsOf)
       (found : Option Known) → AreKnownOrders r ps es → found ≡ lookup (is_at (R p)) es →
       IfSome found (AreKeysOf ps (fields_at r p))
   known_looked_up r ps es p None h e = tt
   known_looked_up r ps es p (Some k) h e = known_found r ps es p k h (sym e)
 
--- a place is the two numbers in it
-pub same_place : CmpEqualImpliesEq
-    (λ (p q : Place). ordering_then (nat_cmp p.ty q.ty) (nat_cmp p.arm q.arm))
-same_place p q e = go (nat_cmp p.ty q.ty) refl e where
+-- the two numbers determine whose fields they are
+pub exact_fields_of : CmpEqualImpliesEq
+    (λ (p q : FieldsOf). ordering_then (nat_cmp p.ty q.ty) (nat_cmp p.arm q.arm))
+exact_fields_of p q e = go (nat_cmp p.ty q.ty) refl e where
   go : (o : Ordering) → nat_cmp p.ty q.ty ≡ o →
       ordering_then o (nat_cmp p.arm q.arm) ≡ Equal → p ≡ q
   go Less is h = absurd cc

@@ -1,10 +1,12 @@
 -- Names that need no escape.
-use Rattle.std.proofs.Common.{◌≡◌, ℕ, suc, ◌<◌, Bool, true, false, List, [], ◌∷◌, length, Some, sym}
+use Rattle.std.proofs.Common.{◌≡◌, ℕ, suc, ◌<◌, List, [], ◌∷◌, length, Some, sym}
 use Rattle.std.proofs.Common.{subst, arith}
-use Rattle.std.specs.Bool.{OnTrue}
 use Rattle.std.specs.List.{AllByRecursion}
 use Rattle.std.specs.Prelude.{unwrap_or}
 use Rattle.json.specs.Print.{escape}
+use Rattle.token_core.specs.Plain.{OnPlain}
+use Rattle.token_core.specs.declared.plain.Escapes.{Escapes}
+use Rattle.token_core.specs.declared.plain.Escapes.TheVariants as escapes
 use Rattle.registry_core.specs.declared.definition.Field.{Field}
 use Rattle.json_core.specs.Ordered.{ArePlain}
 use Rattle.json_core.specs.Tokens.{name_at}
@@ -19,26 +21,26 @@ all_plain [] h = tt
 all_plain (f ∷ fs) h =
     (h 0 (omega arith), all_plain fs (λ i l. h (suc i) (omega (arith, l))))
 
--- the same where it is only known if it is said
-pub plain_names : (b : Bool) (fs : List Field) → OnTrue b (ArePlain fs) → OnTrue b (AllPlain fs)
-plain_names true fs h = all_plain fs h
-plain_names false fs h = tt
+-- the same where it may be unknown
+pub plain_names : (e' : Escapes) (fs : List Field) → OnPlain e' (ArePlain fs) → OnPlain e' (AllPlain fs)
+plain_names escapes.None fs h = all_plain fs h
+plain_names escapes.Unknown fs h = tt
 
 -- if no name needs an escape, none of those after the first does
-pub plain_rest : (b : Bool) (f : Field) (fs : List Field) → OnTrue b (AllPlain (f ∷ fs)) →
-    OnTrue b (AllPlain fs)
-plain_rest true f fs h = h.1
-plain_rest false f fs h = tt
+pub plain_rest : (e' : Escapes) (f : Field) (fs : List Field) → OnPlain e' (AllPlain (f ∷ fs)) →
+    OnPlain e' (AllPlain fs)
+plain_rest escapes.None f fs h = h.1
+plain_rest escapes.Unknown f fs h = tt
 
 -- if no name needs an escape, the first field's name does not
-pub plain_first : (b : Bool) (f : Field) (fs : List Field) (n : List ℕ) → Some n ≡ f.name →
-    OnTrue b (AllPlain (f ∷ fs)) → OnTrue b (escape n ≡ n)
-plain_first true f fs n e h =
+pub plain_first : (e' : Escapes) (f : Field) (fs : List Field) (n : List ℕ) → Some n ≡ f.name →
+    OnPlain e' (AllPlain (f ∷ fs)) → OnPlain e' (escape n ≡ n)
+plain_first escapes.None f fs n e h =
     subst (λ o. escape (unwrap_or o []) ≡ unwrap_or o []) (sym e) h.0
-plain_first false f fs n e h = tt
+plain_first escapes.Unknown f fs n e h = tt
 
 -- if no name needs an escape, that of the field at a position does not
-pub plain_at : (b : Bool) (fs : List Field) (p : ℕ) (n : List ℕ) → name_at fs p ≡ n →
-    p < length fs → OnTrue b (ArePlain fs) → OnTrue b (escape n ≡ n)
-plain_at true fs p n e within h = subst (λ m. escape m ≡ m) e (h p within)
-plain_at false fs p n e within h = tt
+pub plain_at : (e' : Escapes) (fs : List Field) (p : ℕ) (n : List ℕ) → name_at fs p ≡ n →
+    p < length fs → OnPlain e' (ArePlain fs) → OnPlain e' (escape n ≡ n)
+plain_at escapes.None fs p n e within h = subst (λ m. escape m ≡ m) e (h p within)
+plain_at escapes.Unknown fs p n e within h = tt

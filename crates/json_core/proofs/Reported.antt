@@ -1,13 +1,17 @@
 -- A node of a value, by what it is: the JSON that its definition and its children give is that of
 -- the value.
-use Rattle.std.proofs.Common.{◌≡◌, ℕ, ◌-◌, ◌*◌, ◌^◌, ◌<◌, ◌≤◌, ◌⊎◌, Bool, true, false, cond, List}
+use Rattle.std.proofs.Common.{◌≡◌, ℕ, ◌-◌, ◌*◌, ◌^◌, ◌<◌, ◌≤◌, Bool, true, false, cond, List}
 use Rattle.std.proofs.Common.{length, Option, Some, None, refl, sym, ap, subst, ◌∙◌, arith, inl}
-use Rattle.std.proofs.Common.{inr, true≢false, Bor, option_map}
+use Rattle.std.proofs.Common.{inr, Bor, option_map}
 use Rattle.std.specs.Option.{IsSome}
-use Rattle.std.proofs.lemmas.Bool.{ltb-true, ltb-false}
+use Rattle.std.proofs.Math.Nat.{pow-le-pow_right}
+use Rattle.std.proofs.lemmas.Bool.{leb-true, ltb-true, ltb-false}
 use Rattle.std.specs.Int.{w64}
 use Rattle.std.specs.Prelude.{ℤ, pos, neg_ℤ, nat_lt, nat_le, codes, FitsSigned, slice_get}
 use Rattle.std.specs.Char.{encode_utf8}
+use Rattle.std.specs.Fmt.{signed_decimal}
+use Rattle.std.specs.Prelude.{decimal, if◌then◌else◌}
+use Rattle.serde_json.specs.Find.{of_integer}
 use Rattle.serde_json.specs.Data.{Data, Items, no_members, member}
 use Rattle.serde_json.specs.Data as json
 use Rattle.scale_core.specs.Number.{AreBytes, number, signed_number}
@@ -19,11 +23,9 @@ use Rattle.registry_core.specs.declared.definition.Arm.{Arm}
 use Rattle.registry_core.specs.declared.definition.Field.{Field}
 use Rattle.registry_core.specs.declared.definition.TypeDef.{TypeDef}
 use Rattle.registry_core.specs.declared.definition.TypeDef.TheVariants as Def
-use Rattle.registry_core.specs.Kinds.{kind_of, width_bytes}
+use Rattle.registry_core.specs.Kinds.{kind_of}
 use Rattle.registry_core.specs.declared.kind.PrimitiveKind.{PrimitiveKind}
 use Rattle.registry_core.specs.declared.kind.PrimitiveKind.TheVariants as K
-use Rattle.registry_core.specs.declared.kind.IntegerWidth.{IntegerWidth}
-use Rattle.registry_core.specs.declared.kind.IntegerWidth.TheVariants as width
 use Rattle.registry_core.specs.declared.type_info.TypeInfo.{TypeInfo}
 use Rattle.graph_core.specs.Types.{shape, field_types}
 use Rattle.widths_core.specs.Arms.{arm_of}
@@ -48,7 +50,10 @@ use Rattle.node_core.specs.Whats.{what_of}
 use Rattle.node_core.specs.declared.what.What.{What}
 use Rattle.node_core.specs.declared.what.What.TheVariants as what
 use Rattle.node_core.proofs.Below.{arm_get, arm_part_is}
-use Rattle.json_core.specs.Defined.{unsigned_by, signed_by, is_long_kind, is_long, is_long_target}
+use Rattle.json_core.specs.Defined.{unsigned_by, signed_by, width_json, kind_json, integer_json}
+use Rattle.json_core.specs.Defined.{compact_json}
+use Rattle.json_core.specs.declared.integer_json.IntegerJson.{IntegerJson}
+use Rattle.json_core.specs.declared.integer_json.IntegerJson.TheVariants as shown
 use Rattle.json_core.specs.Defined.{defined_arm, composite_fields}
 use Rattle.json_core.specs.Json.{json_of, json_seen, all_json, each_json, unsigned_json}
 use Rattle.json_core.specs.Json.{signed_json, unsigned_data, signed_data, bytes_json, wide_json}
@@ -59,31 +64,18 @@ use Rattle.json_core.proofs.Children.{jsons, all_is, each_is}
 
 -- ---- what the layout of a type says of its definition
 
--- integers of k bytes are long, or so many numbers fit 64 bits
-abbrev pub Long : ℕ → Bool → Type 0
-Long k is = ((is ≡ true) × (nat_le k 8 ≡ false))
-    ⊎ ((is ≡ false) × (nat_le k 8 ≡ true) × (256 ^ k ≤ 2 ^ 64))
-
 abbrev pub Defined : List TypeInfo → Layout → Option TypeDef → Type 0
-Defined r (layout.plain (layout.unsigned k)) d = Long k (is_long d)
-Defined r (layout.plain (layout.signed k)) d = Long k (is_long d)
+Defined r (layout.plain (layout.unsigned k)) d = integer_json d ≡ width_json k
+Defined r (layout.plain (layout.signed k)) d = integer_json d ≡ width_json k
 Defined r (layout.arms as') d = d ≡ Some (Def.Variant as')
 Defined r (layout.plain (layout.compact m)) d = compact_target_of_shape r d ≡ Some m
 Defined r _ d = Unit {0}
 
--- an integer is long exactly above eight bytes, and of up to eight its numbers fit 64 bits
-long_width : (w : IntegerWidth) → Long (width_bytes w) (nat_lt 8 (width_bytes w))
-long_width width.Bits8 = inr (refl, refl, omega arith)
-long_width width.Bits16 = inr (refl, refl, omega arith)
-long_width width.Bits32 = inr (refl, refl, omega arith)
-long_width width.Bits64 = inr (refl, refl, omega arith)
-long_width width.Bits128 = inl (refl, refl)
-
--- a primitive's layout says whether its integers are long, as its kind does
+-- a primitive's layout says how its integers are shown, as its kind does
 defined_kind : (r : List TypeInfo) (k : PrimitiveKind) (d : Option TypeDef) →
-    is_long d ≡ is_long_kind k → Defined r (kind_layout k) d
-defined_kind r (K.Unsigned w) d h = rw h (long_width w)
-defined_kind r (K.Signed w) d h = rw h (long_width w)
+    integer_json d ≡ kind_json k → Defined r (kind_layout k) d
+defined_kind r (K.Unsigned w) d h = h
+defined_kind r (K.Signed w) d h = h
 defined_kind r _ d h = tt
 
 -- the layout of a sequence says nothing of integers, arms or targets
@@ -136,20 +128,29 @@ defined_at r t f e = subst (λ (g : Layout). Defined r g (shape r t)) e (defined
 
 -- ---- integers
 
--- an unsigned integer's JSON is the same by its width and by whether it is long
-unsigned_same : (k n : ℕ) (is : Bool) → Long k is → unsigned_json k n ≡ unsigned_by is n
-unsigned_same k n is (inl h) = rw (h.0, h.1) refl
-unsigned_same k n is (inr h) = rw (h.0, h.1) refl
+-- an unsigned integer's JSON by its width is that by how integers of the width are shown
+unsigned_same : (k n : ℕ) (s : IntegerJson) → s ≡ width_json k → unsigned_json k n ≡ unsigned_by s n
+unsigned_same k n s is = by (nat_le k 8) ∙ ap (λ i. unsigned_by i n) (sym is) where
+  by : (b : Bool) → (if b then json.number (json.unsigned n) else json.string (decimal n))
+      ≡ unsigned_by (if b then shown.Number else shown.Text) n
+  by true = refl
+  by false = refl
 
--- a signed integer's JSON is the same by its width and by whether it is long
-signed_same : (k : ℕ) (z : ℤ) (is : Bool) → Long k is → signed_json k z ≡ signed_by is z
-signed_same k z is (inl h) = rw (h.0, h.1) refl
-signed_same k z is (inr h) = rw (h.0, h.1) refl
+-- a signed integer's JSON by its width is that by how integers of the width are shown
+signed_same : (k : ℕ) (z : ℤ) (s : IntegerJson) → s ≡ width_json k → signed_json k z ≡ signed_by s z
+signed_same k z s is = by (nat_le k 8) ∙ ap (λ i. signed_by i z) (sym is) where
+  by : (b : Bool) → (if b then json.number (of_integer z) else json.string (signed_decimal z))
+      ≡ signed_by (if b then shown.Number else shown.Text) z
+  by true = refl
+  by false = refl
 
--- where integers of so many bytes are not long, there are no more of them than 64 bits hold
-short : (k : ℕ) (is : Bool) → Long k is → is ≡ false → 256 ^ k ≤ 2 ^ 64
-short k is (inl h) e = absurd (true≢false (sym h.0 ∙ e))
-short k is (inr h) e = h.2
+-- where integers of so many bytes are numbers, there are no more of them than 64 bits hold
+short : (k : ℕ) (s : IntegerJson) → s ≡ width_json k → s ≡ shown.Number → 256 ^ k ≤ 2 ^ 64
+short k s is e = by (nat_le k 8) refl (sym is ∙ e) where
+  by : (b : Bool) → nat_le k 8 ≡ b → (if b then shown.Number else shown.Text) ≡ shown.Number →
+      256 ^ k ≤ 2 ^ 64
+  by true within h = pow-le-pow_right {n = 256} (omega arith) (leb-true k 8 within)
+  by false within h = absurd cc
 
 -- a number of at most 64 bits, taken in two's complement, fits 64 bits with a sign
 signed_within : (range n : ℕ) (c : Bool) → nat_lt (2 * n) range ≡ c → n < range → range ≤ 2 ^ 64 →
@@ -165,11 +166,6 @@ signed_fits : (b : List ℕ) → AreBytes b → 256 ^ length b ≤ 2 ^ 64 → Fi
 signed_fits b h small = signed_within (256 ^ length b) (number b)
     (nat_lt (2 * number b) (256 ^ length b)) refl (number-bound b h) small
 
--- of compact integers those with a target of 128 bits are the long ones
-long_target : (m : Target) → Long (target_bytes m) (is_long_target (Some m))
-long_target target.U128 = inl (refl, refl)
-long_target _ = inr (refl, refl, omega arith)
-
 -- a number with a compact spelling for a target fits the bytes of the target
 compact_bound : (m : Target) (x : ℕ) (b : List ℕ) → IsCompact m x b → x < 256 ^ target_bytes m
 compact_bound target.Unit x b h = omega (arith, h.0)
@@ -184,13 +180,13 @@ JsonReported r t v (what.Char c) = json_of r t v ≡ json.string (encode_utf8 c)
 JsonReported r t v what.Text = (s : List ℕ) × (text_of v ≡ Some s) × (json_of r t v ≡ json.string s)
 JsonReported r t v what.Bytes = (s : List ℕ) × (bytes_of v ≡ Some s)
     × (json_of r t v ≡ bytes_json s)
-JsonReported r t v (what.Unsigned n) = (is_long (shape r t) ≡ false → n < 2 ^ 64)
-    × (json_of r t v ≡ unsigned_by (is_long (shape r t)) n)
-JsonReported r t v (what.Signed z) = (is_long (shape r t) ≡ false → FitsSigned w64 z)
-    × (json_of r t v ≡ signed_by (is_long (shape r t)) z)
+JsonReported r t v (what.Unsigned n) = (integer_json (shape r t) ≡ shown.Number → n < 2 ^ 64)
+    × (json_of r t v ≡ unsigned_by (integer_json (shape r t)) n)
+JsonReported r t v (what.Signed z) = (integer_json (shape r t) ≡ shown.Number → FitsSigned w64 z)
+    × (json_of r t v ≡ signed_by (integer_json (shape r t)) z)
 JsonReported r t v (what.Wide s) = json_of r t v ≡ wide_json s
-JsonReported r t v (what.Compact n) = (is_long_target (compact_target_of r t) ≡ false → n < 2 ^ 64)
-    × (json_of r t v ≡ unsigned_by (is_long_target (compact_target_of r t)) n)
+JsonReported r t v (what.Compact n) = (compact_json (compact_target_of r t) ≡ shown.Number → n < 2 ^ 64)
+    × (json_of r t v ≡ unsigned_by (compact_json (compact_target_of r t)) n)
 JsonReported r t v what.Fields = json_of r t v ≡ parts_json (shape r t) (jsons (children_by r t v))
 JsonReported r t v (what.Arm q) = (a : Arm) × (defined_arm (shape r t) q ≡ Some a)
     × (json_of r t v ≡ json.object
@@ -199,7 +195,7 @@ JsonReported r t v what.List = json_of r t v ≡ json.array (jsons (children_by 
 JsonReported r t v (what.Count k) =
     json_of r t v ≡ json.object (member (codes "count") (json.number (json.unsigned k)) no_members)
 
--- an unsigned integer's node reports its JSON, and its number fits 64 bits if it is not long
+-- an unsigned integer's node reports its JSON, and it fits 64 bits if it is shown as a number
 unsigned_reported : (r : List TypeInfo) (t k : ℕ) (b : List ℕ) → AreBytes b →
     layout r t ≡ layout.plain (layout.unsigned k) → length b ≡ k →
     JsonReported r t (tree.leaf (tree.unsigned (number b))) (what.Unsigned (number b))
@@ -211,7 +207,7 @@ unsigned_reported r t k b are e len =
       ap (λ (f : Layout). unsigned_data f (number b)) e ∙ unsigned_same k (number b) _ long,
     )
 
--- a signed integer's node reports its JSON, and it fits 64 bits if it is not long
+-- a signed integer's node reports its JSON, and it fits 64 bits if it is shown as a number
 signed_reported : (r : List TypeInfo) (t k : ℕ) (b : List ℕ) → AreBytes b →
     layout r t ≡ layout.plain (layout.signed k) → length b ≡ k →
     JsonReported r t (tree.leaf (tree.signed (signed_number b))) (what.Signed (signed_number b))
@@ -223,15 +219,15 @@ signed_reported r t k b are e len =
           ∙ signed_same k (signed_number b) _ long,
     )
 
--- a compact integer's node reports its JSON, and it fits 64 bits if it is not long
+-- a compact integer's node reports its JSON, and it fits 64 bits if it is shown as a number
 compact_reported : (r : List TypeInfo) (t x : ℕ) (m : Target) (b : List ℕ) →
     layout r t ≡ layout.plain (layout.compact m) → IsCompact m x b →
     JsonReported r t (tree.leaf (tree.compact x)) (what.Compact x)
 unfolding json_of
 compact_reported r t x m b e h =
     let is : compact_target_of r t ≡ Some m = defined_at r t (layout.plain (layout.compact m)) e in
-    let long : Long (target_bytes m) (is_long_target (compact_target_of r t)) =
-    rw is (long_target m) in (
+    let long : compact_json (compact_target_of r t) ≡ width_json (target_bytes m) =
+    ap compact_json is in (
       λ s. omega (arith, compact_bound m x b h, short (target_bytes m) _ long s),
       ap (λ (f : Layout). unsigned_data f x) e ∙ unsigned_same (target_bytes m) x _ long,
     )
@@ -315,31 +311,19 @@ pub reported : (s : Seen) (w : What) → IsValue s → w ≡ what_of s.tree →
 reported s w h e = subst (JsonReported s.types s.ty s.tree) (sym e)
     (reported_by s.types s.ty s.tree h.0 h.1 h.2)
 
--- ---- what the code has found of the node's type
-
-abbrev pub AtNode : Seen → List TypeInfo → ℕ → Type 0
-AtNode s types t = (types ≡ s.types) × (t ≡ s.ty)
-
--- whether integers are long is asked of the node's own type where that type was looked up
-pub long_here : (s : Seen) (types : List TypeInfo) (t : ℕ) (found : Bool) → AtNode s types t →
-    found ≡ is_long (shape types t) → found ≡ is_long (shape s.types s.ty)
-long_here s types t found at e = rw (← at.0, ← at.1) e
-
--- the same for compact integers, by the target of the node's own type
-pub long_compact_here : (s : Seen) (types : List TypeInfo) (t : ℕ) (found : Bool) →
-    AtNode s types t → found ≡ is_long_target (compact_target_of types t) →
-    found ≡ is_long_target (compact_target_of s.types s.ty)
-long_compact_here s types t found at e = rw (← at.0, ← at.1) e
-
 -- ---- what the code has found of a node's text, of its fields and of its arm
+
+-- what was found is what is there
+pub found_is : {X : Type 0} {there : Option X} {found : Option (Bor X)} {x : Bor X} →
+    option_map (λ y. y.now) found ≡ there → found ≡ Some x → there ≡ Some x.now
+found_is e f = sym e ∙ ap (option_map (λ y. y.now)) f
 
 -- a node that is a text has the JSON string of the text that was found for it
 pub text_is : (s : Seen) (found : Option (Bor (List ℕ))) (text : Bor (List ℕ)) →
     option_map (λ x. x.now) found ≡ text_of s.tree → found ≡ Some text →
     JsonReported s.types s.ty s.tree what.Text → json_seen s ≡ json.string text.now
 text_is s found text e f h =
-    let same : Some text.now ≡ Some h.0 = ap (option_map (λ (x : Bor (List ℕ)). x.now)) (sym f) ∙ e
-    ∙ h.1 in
+    let same : Some text.now ≡ Some h.0 = sym (found_is e f) ∙ h.1 in
     let is : text.now ≡ h.0 = cc in
     h.2 ∙ ap json.string (sym is)
 
@@ -348,26 +332,9 @@ pub bytes_are : (s : Seen) (found : Option (Bor (List ℕ))) (bytes : Bor (List 
     option_map (λ x. x.now) found ≡ bytes_of s.tree → found ≡ Some bytes →
     JsonReported s.types s.ty s.tree what.Bytes → json_seen s ≡ bytes_json bytes.now
 bytes_are s found bytes e f h =
-    let same : Some bytes.now ≡ Some h.0 = ap (option_map (λ (x : Bor (List ℕ)). x.now)) (sym f) ∙ e
-    ∙ h.1 in
+    let same : Some bytes.now ≡ Some h.0 = sym (found_is e f) ∙ h.1 in
     let is : bytes.now ≡ h.0 = cc in
     h.2 ∙ ap bytes_json (sym is)
-
--- the fields that were found are those of the node's type
-pub fields_at_node : (s : Seen) (types : List TypeInfo) (t : ℕ)
-    (found : Option (Bor (List Field))) (fs : Bor (List Field)) → AtNode s types t →
-    option_map (λ x. x.now) found ≡ composite_fields (shape types t) → found ≡ Some fs →
-    composite_fields (shape s.types s.ty) ≡ Some fs.now
-fields_at_node s types t found fs at e f =
-    rw (← at.0, ← at.1) (sym e ∙ ap (option_map (λ (x : Bor (List Field)). x.now)) f)
-
--- where no fields were found at a node's type, the type is no composite
-pub no_fields_at_node : (s : Seen) (types : List TypeInfo) (t : ℕ)
-    (found : Option (Bor (List Field))) → AtNode s types t →
-    option_map (λ x. x.now) found ≡ composite_fields (shape types t) → found ≡ None →
-    composite_fields (shape s.types s.ty) ≡ None
-no_fields_at_node s types t found at e f =
-    rw (← at.0, ← at.1) (sym e ∙ ap (option_map (λ (x : Bor (List Field)). x.now)) f)
 
 -- a composite's value has the JSON of its fields
 pub fields_are : (s : Seen) (fs : List Field) → composite_fields (shape s.types s.ty) ≡ Some fs →
@@ -387,21 +354,11 @@ no_fields_json (Some (Def.Composite gs)) ds e = absurd cc
 no_fields_json _ ds e = refl
 
 -- a node of an arm has that arm in its definition, so it was found
-pub arm_there : (s : Seen) (q : ℕ) (types : List TypeInfo) (t : ℕ) (found : Option (Bor Arm)) →
-    AtNode s types t → option_map (λ x. x.now) found ≡ defined_arm (shape types t) q →
+pub arm_there : (s : Seen) (q : ℕ) (found : Option (Bor Arm)) →
+    option_map (λ x. x.now) found ≡ defined_arm (shape s.types s.ty) q →
     JsonReported s.types s.ty s.tree (what.Arm q) → IsSome found
-arm_there s q types t None at e h = let no : None ≡ Some h.0 = e
-    ∙ ap (λ (r : List TypeInfo). defined_arm (shape r t) q) at.0
-    ∙ ap (λ (u : ℕ). defined_arm (shape s.types u) q) at.1 ∙ h.1 in absurd cc
-arm_there s q types t (Some a) at e h = refl
-
--- the arm that was found is the node's
-pub arm_at_node : (s : Seen) (q : ℕ) (types : List TypeInfo) (t : ℕ) (found : Option (Bor Arm))
-    (a : Bor Arm) → AtNode s types t →
-    option_map (λ x. x.now) found ≡ defined_arm (shape types t) q → found ≡ Some a →
-    defined_arm (shape s.types s.ty) q ≡ Some a.now
-arm_at_node s q types t found a at e f =
-    rw (← at.0, ← at.1) (sym e ∙ ap (option_map (λ (x : Bor Arm). x.now)) f)
+arm_there s q None e h = let no : None ≡ Some h.0 = e ∙ h.1 in absurd cc
+arm_there s q (Some a) e h = refl
 
 -- a node of an arm is an object with the name of the arm in its definition as the one key
 pub arm_is : (s : Seen) (q : ℕ) (a : Arm) → defined_arm (shape s.types s.ty) q ≡ Some a →
@@ -413,16 +370,16 @@ arm_is s q a e h =
     h.2 ∙ ap (λ (x : Arm). json.object
     (member x.name (fields_json x.fields (jsons (children_of s))) no_members)) is
 
--- ---- the fields at a place
+-- ---- the fields of a type
 
--- the fields of a composite are those at its place, whatever arm is asked for
-pub composite_place : (d : Option TypeDef) (q : ℕ) (fs : List Field) →
+-- the fields of a composite are its own, whatever arm is asked for
+pub composite_fields_in : (d : Option TypeDef) (q : ℕ) (fs : List Field) →
     composite_fields d ≡ Some fs → fields_in d q ≡ Some fs
-composite_place (Some (Def.Composite gs)) q fs e = e
-composite_place _ q fs e = absurd cc
+composite_fields_in (Some (Def.Composite gs)) q fs e = e
+composite_fields_in _ q fs e = absurd cc
 
--- the fields of an arm of a variant are those at the arm's place
-pub arm_place : (d : Option TypeDef) (q : ℕ) (a : Arm) → defined_arm d q ≡ Some a →
+-- the fields of an arm of a variant are the arm's
+pub arm_fields_in : (d : Option TypeDef) (q : ℕ) (a : Arm) → defined_arm d q ≡ Some a →
     fields_in d q ≡ Some a.fields
-arm_place (Some (Def.Variant arms)) q a e = ap (option_map (λ (x : Arm). x.fields)) e
-arm_place _ q a e = absurd cc
+arm_fields_in (Some (Def.Variant arms)) q a e = ap (option_map (λ (x : Arm). x.fields)) e
+arm_fields_in _ q a e = absurd cc

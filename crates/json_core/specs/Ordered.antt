@@ -2,7 +2,6 @@
 use Rattle.std.specs.Prelude.{◌≡◌, ℕ, suc, ◌+◌, ◌<◌, ◌≤◌, List, [], ◌∷◌, ◌++◌, length, map}
 use Rattle.std.specs.Prelude.{slice_range, Bool, if◌then◌else◌, Option, Some, None, option_map}
 use Rattle.std.specs.Prelude.{option_and_then, is_some, IsSome, unwrap_or, slice_get}
-use Rattle.std.specs.Bool.{OnTrue}
 use Rattle.std.specs.Borrow.{Bor}
 use Rattle.std.specs.List.{AllByRecursion, range_with_len}
 use Rattle.std.specs.Ordering.{nat_cmp, is_gt}
@@ -14,8 +13,9 @@ use Rattle.registry_core.specs.declared.definition.TypeDef.{TypeDef}
 use Rattle.registry_core.specs.declared.definition.TypeDef.TheVariants as Def
 use Rattle.registry_core.specs.declared.type_info.TypeInfo.{TypeInfo}
 use Rattle.graph_core.specs.Types.{shape}
-use Rattle.json_core.specs.declared.orders.Place.{Place}
+use Rattle.json_core.specs.declared.orders.FieldsOf.{FieldsOf}
 use Rattle.json.specs.Print.{escape}
+use Rattle.token_core.specs.Plain.{OnPlain}
 use Rattle.json_core.specs.Tokens.{name_at}
 use Rattle.json_core.specs.declared.orders.Known.{Known}
 use Rattle.json_core.specs.declared.orders.Keys.{Keys}
@@ -72,7 +72,7 @@ fields_in (Some (Def.Composite fs)) q = Some fs
 fields_in (Some (Def.Variant arms)) q = option_map (λ a. a.fields) (slice_get arms q)
 fields_in _ q = None
 
-abbrev pub fields_at : List TypeInfo → Place → Option (List Field)
+abbrev pub fields_at : List TypeInfo → FieldsOf → Option (List Field)
 fields_at r p = fields_in (shape r p.ty) p.arm
 
 -- what contracts see of the orders that are known: the registry, and positions of fields
@@ -93,23 +93,23 @@ ArePlain fs = (i : ℕ) → i < length fs → escape (name_at fs i) ≡ name_at 
 
 -- and if it is said, no name of them needs an escape
 abbrev pub IsKnown : List ℕ → List Field → Known → Type 0
-IsKnown ps fs k = AreKeys ps fs k.keys × OnTrue k.plain (ArePlain fs)
+IsKnown ps fs k = AreKeys ps fs k.keys × OnPlain k.escapes (ArePlain fs)
 
--- those of the fields at a place, where it has any
+-- those of the fields, if there are such
 abbrev pub AreKeysOf : List ℕ → Option (List Field) → Known → Type 0
 AreKeysOf ps None k = Unit {0}
 AreKeysOf ps (Some fs) k = IsKnown ps fs k
 
 -- all that are known are
-abbrev pub AreKnownOrders : List TypeInfo → List ℕ → List (Place × Known) → Type 0
+abbrev pub AreKnownOrders : List TypeInfo → List ℕ → List (FieldsOf × Known) → Type 0
 AreKnownOrders r ps es = AllByRecursion (λ e. AreKeysOf ps (fields_at r e.0) e.1) es
 
 -- the same of what is in slots, of which some are empty
-abbrev pub IsKnownSlot : List TypeInfo → List ℕ → Option (Place × Known) → Type 0
+abbrev pub IsKnownSlot : List TypeInfo → List ℕ → Option (FieldsOf × Known) → Type 0
 IsKnownSlot r ps None = Unit {0}
 IsKnownSlot r ps (Some e) = AreKeysOf ps (fields_at r e.0) e.1
 
-abbrev pub AreKnownSlots : List TypeInfo → List ℕ → List (Option (Place × Known)) → Type 0
+abbrev pub AreKnownSlots : List TypeInfo → List ℕ → List (Option (FieldsOf × Known)) → Type 0
 AreKnownSlots r ps ss = AllByRecursion (IsKnownSlot r ps) ss
 
 -- of the same registry, and positions were added after the others, if any

@@ -1,17 +1,19 @@
-//! What the definition of a type says of the JSON of its values.
+//! Looks up what the JSON of a node needs of the definition of its type.
 
 ghost use Rattle.std.specs.Prelude.{◌≡◌, ◌<◌, ◌^◌, length, option_map, IfSome};
 ghost use Rattle.registry_core.specs.Fits.{FitsDefinition};
 ghost use Rattle.widths_core.specs.Targets.{compact_target_of};
 ghost use Rattle.graph_core.specs.Types.{shape};
-ghost use Rattle.json_core.specs.Defined.{is_long_primitive, is_long, is_long_target, defined_arm};
+ghost use Rattle.registry_core.specs.Kinds.{kind_of};
+ghost use Rattle.json_core.specs.Defined.{kind_json, integer_json, compact_json, defined_arm};
 ghost use Rattle.json_core.specs.Defined.{composite_fields};
 
+use crate::integer_json::IntegerJson;
 use registry_core::{Arm, Field, Primitive, PrimitiveKind, TypeDef, TypeId};
-use scale_core::Target;
+use value_core::NodeRef;
 use widths_core::Checked;
 
-/// What a type is made of, where it is a position.
+/// Returns the definition of a type, if the registry has the type.
 fn definition(checked: &Checked, ty: TypeId) -> Option<&TypeDef>
     ensures known { option_map (λ d. d.now) result ≡ shape checked.now.types ty.0 }
     ensures fits { IfSome result (λ d. FitsDefinition d.now) }
@@ -20,52 +22,68 @@ fn definition(checked: &Checked, ty: TypeId) -> Option<&TypeDef>
     Some(&info.shape)
 }
 
-/// Is the primitive an integer of 128 bits?
-fn is_long_primitive(primitive: Primitive) -> bool
-    ensures { result ≡ is_long_primitive primitive }
+/// Returns how integers of the primitive stand in JSON.
+fn primitive_json(primitive: Primitive) -> IntegerJson
+    ensures { result ≡ kind_json (kind_of primitive) }
 {
     match primitive.kind() {
-        PrimitiveKind::Unsigned(width) | PrimitiveKind::Signed(width) => width.bytes() > 8,
-        _ => false,
+        PrimitiveKind::Unsigned(width) | PrimitiveKind::Signed(width) => {
+            IntegerJson::of_width(width.bytes())
+        }
+        _ => IntegerJson::Number,
     }
 }
 
-/// Is the type an integer of 128 bits?
-pub(crate) fn is_long(checked: &Checked, ty: TypeId) -> bool
-    ensures { result ≡ is_long (shape checked.now.types ty.0) }
+/// Returns how integers of the node's type stand in JSON.
+pub(crate) fn integer_json(checked: &Checked, node: &NodeRef<'_, '_>) -> IntegerJson
+    requires { checked.now.types ≡ node.now.types }
+    ensures { result ≡ integer_json (shape node.now.types node.now.ty) }
 {
-    match definition(checked, ty) {
-        Some(TypeDef::Primitive(primitive)) => is_long_primitive(*primitive),
-        _ => false,
+    match definition(checked, node.type_id()) {
+        Some(TypeDef::Primitive(primitive)) => primitive_json(*primitive),
+        _ => IntegerJson::Number,
     }
 }
 
-/// Is the type a compact integer of 128 bits?
-pub(crate) fn is_long_compact(checked: &Checked, ty: TypeId) -> bool
-    ensures { result ≡ is_long_target (compact_target_of checked.now.types ty.0) }
+/// Returns how compact integers of the node's type stand in JSON.
+pub(crate) fn compact_json(checked: &Checked, node: &NodeRef<'_, '_>) -> IntegerJson
+    requires { checked.now.types ≡ node.now.types }
+    ensures { result ≡ compact_json (compact_target_of node.now.types node.now.ty) }
 {
-    matches!(checked.compact_target(ty), Some(Target::U128))
+    match checked.compact_target(node.type_id()) {
+        Some(target) => IntegerJson::of_width(target.bytes()),
+        None => IntegerJson::Number,
+    }
 }
 
-/// The arm at a position of a variant.
-pub(crate) fn defined_arm(checked: &Checked, ty: TypeId, position: u32) -> Option<&Arm>
+/// Returns the arm at a position of the node's type, if that is a variant.
+pub(crate) fn defined_arm<'r>(
+    checked: &'r Checked,
+    node: &NodeRef<'_, '_>,
+    position: u32,
+) -> Option<&'r Arm>
+    requires { checked.now.types ≡ node.now.types }
     ensures same { option_map (λ a. a.now) result
-        ≡ defined_arm (shape checked.now.types ty.0) position }
+        ≡ defined_arm (shape node.now.types node.now.ty) position }
     ensures few { IfSome result (λ a. length a.now.fields < 2 ^ 32) }
 {
-    match definition(checked, ty) {
+    match definition(checked, node.type_id()) {
         Some(TypeDef::Variant(arms)) => arms.as_slice().get(position as usize),
         _ => None,
     }
 }
 
-/// The fields of a composite, where the type is one.
-pub(crate) fn composite_fields(checked: &Checked, ty: TypeId) -> Option<&[Field]>
+/// Returns the fields of the node's type, if that is a composite.
+pub(crate) fn composite_fields<'r>(
+    checked: &'r Checked,
+    node: &NodeRef<'_, '_>,
+) -> Option<&'r [Field]>
+    requires { checked.now.types ≡ node.now.types }
     ensures same { option_map (λ fs. fs.now) result
-        ≡ composite_fields (shape checked.now.types ty.0) }
+        ≡ composite_fields (shape node.now.types node.now.ty) }
     ensures few { IfSome result (λ fs. length fs.now < 2 ^ 32) }
 {
-    match definition(checked, ty) {
+    match definition(checked, node.type_id()) {
         Some(TypeDef::Composite(fields)) => Some(fields.as_slice()),
         _ => None,
     }

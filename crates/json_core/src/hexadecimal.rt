@@ -1,4 +1,4 @@
-//! Bytes as hexadecimal text.
+//! Bytes as hexadecimal text in the JSON tree.
 
 ghost use Rattle.std.specs.Prelude.{◌≡◌, ◌++◌, codes, IfOk};
 ghost use Rattle.std.specs.String.{string_bytes};
@@ -9,7 +9,7 @@ ghost use Rattle.json_core.specs.Json.{bytes_json};
 use serde_json::Value;
 use std::alloc::{AllocError, Global};
 
-/// The bytes as `0x` and two digits each, in their order.
+/// Returns `0x` and two digits for each byte, in order.
 pub(crate) fn hex_text(alloc: Global, bytes: &[u8]) -> Result<String, AllocError>
     ensures { IfOk result (λ text. string_bytes text ≡ codes "0x" ++ encode_lower bytes.now) }
 {
@@ -17,7 +17,7 @@ pub(crate) fn hex_text(alloc: Global, bytes: &[u8]) -> Result<String, AllocError
     format!(in alloc; "0x{digits}")
 }
 
-/// A text of these bytes in hexadecimal.
+/// Returns the bytes as a text of hexadecimal digits.
 pub(crate) fn bytes_json(alloc: Global, bytes: &[u8]) -> Result<Value, AllocError>
     ensures { IfOk result (λ v. view v ≡ bytes_json bytes.now) }
 {

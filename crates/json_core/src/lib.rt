@@ -1,9 +1,10 @@
-//! Shows a value as JSON: as a tree of `serde_json`, as text, and as text in a sink or in memory.
+//! A value as JSON: as a tree of `serde_json`, as text, and as text in a sink or in memory.
 #![tactic(auto)]
 
 mod defined;
 mod fields;
 mod hexadecimal;
+mod integer_json;
 mod integers;
 pub mod laws;
 mod names;

@@ -1,9 +1,9 @@
-//! The names of fields, and the order of their bytes.
+//! The names of fields, in the order of their bytes.
 
 ghost use Rattle.std.specs.Prelude.{◌≡◌, ◌<◌, ◌≤◌, ◌^◌, ◌↔◌, [], Some, length, option_map, IfOk};
 ghost use Rattle.std.specs.Prelude.{IsSome, IsTrue};
 ghost use Rattle.std.specs.List.{range_with_len};
-ghost use Rattle.std.specs.Bool.{OnTrue};
+ghost use Rattle.token_core.specs.Plain.{OnPlain};
 ghost use Rattle.json_core.specs.Ordered.{ArePlain, is_there, place_among};
 ghost use Rattle.json_core.specs.Ordered.{lent_entries, order_from, positions_of};
 
@@ -12,12 +12,13 @@ use registry_core::Field;
 use std::alloc::{AllocError, Global};
 use std::cmp::Ordering;
 use std::collections::BTreeMap;
-use token_core::is_plain;
+use token_core::{Escapes, is_plain};
 
-/// So many fields at most are few: what is done for each pair of them costs less than memory for a map or a list.
+/// The most fields that are few: work for each pair of them costs less than memory for a map or a
+/// list.
 pub(crate) const FEW: usize = 8;
 
-/// The name of a field that has one.
+/// Returns the name of a field that has one.
 pub(crate) fn name_of(field: &Field) -> &str
     requires { IsSome field.now.name }
     ensures { Some result.now ≡ field.now.name }
@@ -25,7 +26,7 @@ pub(crate) fn name_of(field: &Field) -> &str
     field.name.as_ref().unwrap().as_str()
 }
 
-/// Is the name one of these?
+/// Returns whether the name is one of these.
 fn is_among(names: &[(&str, u32)], name: &str) -> bool
     ensures { result ≡ is_there name.now (lent_entries names.now) }
 {
@@ -37,7 +38,7 @@ fn is_among(names: &[(&str, u32)], name: &str) -> bool
     false
 }
 
-/// How many of these names, from the first on, stand before the name.
+/// Returns how many of these names, from the first on, come before the name.
 fn place_among(names: &[(&str, u32)], name: &str) -> usize
     ensures { result ≡ place_among name.now (lent_entries names.now) }
 {
@@ -51,8 +52,8 @@ fn place_among(names: &[(&str, u32)], name: &str) -> usize
     place
 }
 
-/// The positions of few fields in the order of their names' bytes, where each has a name and all names differ. The names
-/// are put into a list, each at its place, and no memory is taken.
+/// Returns the positions of few fields in the order of their names' bytes, if each has a name and
+/// all names differ. It inserts the names into a sorted list, and allocates nothing.
 pub(crate) fn order_of_few(fields: &[Field]) -> Option<ArrayVec<u32, FEW>>
     requires { length fields.now ≤ FEW }
     ensures { option_map (λ v. v.items) result
@@ -74,8 +75,8 @@ pub(crate) fn order_of_few(fields: &[Field]) -> Option<ArrayVec<u32, FEW>>
     Some(order)
 }
 
-/// The positions of fields in the order of their names' bytes, where each has a name and all names differ. The names
-/// are put into a map, so fields take as many look-ups as there are.
+/// Returns the positions of fields in the order of their names' bytes, if each has a name and all
+/// names differ. It inserts the names into a map: a look-up for each field.
 pub(crate) fn order_of_many(alloc: Global, fields: &[Field]) -> Result<Option<Vec<u32>>, AllocError>
     requires { length fields.now < 2 ^ 32 }
     ensures { IfOk result (λ found. option_map (λ v. v.items) found
@@ -97,7 +98,7 @@ pub(crate) fn order_of_many(alloc: Global, fields: &[Field]) -> Result<Option<Ve
     Ok(Some(order))
 }
 
-/// Is each position its own place?
+/// Returns whether each entry is its own index.
 pub(crate) fn counts_up(order: &[u32]) -> bool
     ensures { IsTrue result ↔ (order.now ≡ range_with_len 0 (length order.now)) }
 {
@@ -109,16 +110,16 @@ pub(crate) fn counts_up(order: &[u32]) -> bool
     true
 }
 
-/// Does none of the names need an escape? A field without one is none that does.
-pub(crate) fn are_plain(fields: &[Field]) -> bool
-    ensures { OnTrue result (ArePlain fields.now) }
+/// Returns `None` if no name needs an escape. A field without a name needs none.
+pub(crate) fn escapes_of(fields: &[Field]) -> Escapes
+    ensures { OnPlain result (ArePlain fields.now) }
 {
     'fields: for field in fields {
         if let Some(name) = &field.name {
             if !is_plain(name.as_str()) {
-                return false;
+                return Escapes::Unknown;
             }
         }
     }
-    true
+    Escapes::None
 }

@@ -9,17 +9,17 @@ ghost use Rattle.node_core.specs.Shown.{children_of};
 ghost use Rattle.json_core.specs.Json.{fields_json, parts_json, json_seen};
 ghost use Rattle.json_core.specs.Ordered.{fields_at, Grows};
 
-use crate::defined::{composite_fields, defined_arm, is_long, is_long_compact};
+use crate::defined::{compact_json, composite_fields, defined_arm, integer_json};
 use crate::fields::fields_json;
 use crate::hexadecimal::bytes_json;
 use crate::integers::{signed_json, unsigned_json, wide_json};
-use crate::orders::{Orders, Place};
-use registry_core::{Arm, TypeId};
+use crate::orders::{FieldsOf, Orders};
+use registry_core::Arm;
 use serde_json::{Map, Value};
 use std::alloc::{AllocError, Allocator, Global};
 use value_core::{NodeRef, What};
 
-/// A text of one character.
+/// Returns a text of one character.
 fn char_json(alloc: Global, x: char) -> Result<Value, AllocError>
     ensures { IfOk result (λ v. view v ≡ string (encode_utf8 x)) }
 {
@@ -28,7 +28,7 @@ fn char_json(alloc: Global, x: char) -> Result<Value, AllocError>
     Ok(Value::String(text))
 }
 
-/// An object of one member.
+/// Returns an object of one member.
 fn single(alloc: Global, name: &str, value: Value) -> Result<Value, AllocError>
     ensures { IfOk result (λ v. view v ≡ object (member name.now (view value) no_members)) }
 {
@@ -37,43 +37,45 @@ fn single(alloc: Global, name: &str, value: Value) -> Result<Value, AllocError>
     Ok(Value::Object(members))
 }
 
-/// The value of a composite or a tuple.
+/// Returns the value of a composite or a tuple, given its parts.
 fn parts_json(
     alloc: Global,
     orders: &mut Orders<'_>,
-    ty: TypeId,
+    node: &NodeRef<'_, '_>,
     items: Vec<Value>,
 ) -> Result<Value, AllocError>
+    requires { orders.old.types ≡ node.now.types }
     ensures json { IfOk result
-        (λ v. view v ≡ parts_json (shape orders.old.types ty.0) (items_view items.items)) }
+        (λ v. view v ≡ parts_json (shape node.now.types node.now.ty) (items_view items.items)) }
     ensures grows { Grows orders.old orders.new }
 {
-    match composite_fields(orders.checked(), ty) {
-        Some(fields) => fields_json(alloc, orders, Place { ty: ty.0, arm: 0 }, fields, items),
+    let ty = node.type_id();
+    match composite_fields(orders.checked(), node) {
+        Some(fields) => fields_json(alloc, orders, FieldsOf { ty: ty.0, arm: 0 }, fields, items),
         None => Ok(Value::Array(items)),
     }
 }
 
-/// The value of an arm: an object with the arm's name as its one key.
+/// Returns the value of an arm: an object whose one key is the arm's name.
 fn arm_json(
     alloc: Global,
     orders: &mut Orders<'_>,
-    place: Place,
+    of: FieldsOf,
     arm: &Arm,
     items: Vec<Value>,
 ) -> Result<Value, AllocError>
-    requires fields { fields_at orders.old.types place ≡ Some arm.now.fields }
+    requires fields { fields_at orders.old.types of ≡ Some arm.now.fields }
     requires few { length arm.now.fields < 2 ^ 32 }
     ensures json { IfOk result
         (λ v. view v ≡ object (member arm.now.name
         (fields_json arm.now.fields (items_view items.items)) no_members)) }
     ensures grows { Grows orders.old orders.new }
 {
-    let fields = fields_json(alloc, orders, place, arm.fields.as_slice(), items)?;
+    let fields = fields_json(alloc, orders, of, arm.fields.as_slice(), items)?;
     single(alloc, arm.name.as_str(), fields)
 }
 
-/// A node as JSON, where these are its children as JSON, in order.
+/// Returns a node as JSON, given its children as JSON, in order.
 fn with_items(
     alloc: Global,
     orders: &mut Orders<'_>,
@@ -86,32 +88,31 @@ fn with_items(
     ensures grows { Grows orders.old orders.new }
 {
     let checked = orders.checked();
-    let ty = node.type_id();
     match node.what() {
         What::Empty => Ok(Value::Null),
         What::Bool(x) => Ok(Value::Bool(x)),
         What::Char(x) => char_json(alloc, x),
         What::Text => Value::try_from_str(alloc, node.text().unwrap()),
         What::Bytes => bytes_json(alloc, node.bytes().unwrap()),
-        What::Unsigned(n) => unsigned_json(alloc, is_long(checked, ty), n),
-        What::Signed(n) => signed_json(alloc, is_long(checked, ty), n),
+        What::Unsigned(n) => unsigned_json(alloc, integer_json(checked, node), n),
+        What::Signed(n) => signed_json(alloc, integer_json(checked, node), n),
         What::Wide(bytes) => wide_json(alloc, bytes),
-        What::Compact(n) => unsigned_json(alloc, is_long_compact(checked, ty), n),
-        What::Fields => parts_json(alloc, orders, ty, items),
+        What::Compact(n) => unsigned_json(alloc, compact_json(checked, node), n),
+        What::Fields => parts_json(alloc, orders, node, items),
         What::Arm { position } => {
-            let arm = defined_arm(checked, ty, position).unwrap();
-            let place = Place {
-                ty: ty.0,
+            let arm = defined_arm(checked, node, position).unwrap();
+            let of = FieldsOf {
+                ty: node.type_id().0,
                 arm: position,
             };
-            arm_json(alloc, orders, place, arm, items)
+            arm_json(alloc, orders, of, arm, items)
         }
         What::List => Ok(Value::Array(items)),
         What::Count(count) => single(alloc, "count", Value::from(count)),
     }
 }
 
-/// A node and all that is below it as JSON. It calls itself for each child, so no deeper than the value's levels.
+/// Returns a node and all that is below it as JSON. The calls nest as deep as the value.
 fn node_json(
     alloc: Global,
     orders: &mut Orders<'_>,

@@ -1,30 +1,32 @@
-//! The orders of keys that are known in one call: each is found once, for each composite and each arm that is met.
+//! The orders of keys that are known in one call. Each is found once, for each composite and each
+//! arm that is met.
 
 ghost use Rattle.std.specs.Prelude.{◌≡◌, ◌+◌, ◌<◌, ◌^◌, ℕ, List, [], ◌++◌, Some, length};
 ghost use Rattle.std.specs.Prelude.{slice_index, IfOk, IfSome};
 ghost use Rattle.json_core.specs.Ordered.{fields_at, key_order, AreKeys, AreKeysOf, IsKnown, Grows};
 
-use crate::names::{FEW, are_plain, counts_up, order_of_few, order_of_many};
+use crate::names::{FEW, counts_up, escapes_of, order_of_few, order_of_many};
 use registry_core::Field;
 use std::alloc::{AllocError, Global};
 use std::collections::BTreeMap;
 use std::marker::Model;
+use token_core::Escapes;
 use widths_core::Checked;
 
-/// So many places have a slot, in which what is known of them is found by one look.
+/// How many composites and arms have a slot, in which what is known of their fields is found first.
 const SLOTS: usize = 16;
 
-/// Where fields are defined: in a composite, or in an arm of a variant.
+/// Names the fields of a composite, or of an arm of a variant.
 #[derive(Clone, Copy, PartialEq, Eq, PartialOrd, Ord)]
-pub(crate) struct Place {
+pub(crate) struct FieldsOf {
     /// The position of the type.
     pub(crate) ty: u32,
     /// The position of the arm among the arms; 0 in a composite.
     pub(crate) arm: u32,
 }
 
-impl Place {
-    /// The slot in which it is looked for.
+impl FieldsOf {
+    /// Returns the slot in which what is known of the fields is looked for.
     fn slot(self) -> usize
         ensures { result < SLOTS }
     {
@@ -35,24 +37,25 @@ impl Place {
 /// How the values of fields are shown.
 #[derive(Clone, Copy)]
 pub(crate) enum Keys {
-    /// As an array, since there is no field, one has no name, or two have the same.
+    /// As an array, because there is no field, one has no name, or two have the same.
     Unnamed,
-    /// As an object, and the names stand in the order of their bytes.
+    /// As an object, whose names are in the order of their bytes.
     InOrder,
-    /// As an object; the positions of the fields in the order of their names' bytes are kept from `start` on.
+    /// As an object. The positions of the fields in the order of their names' bytes are kept from
+    /// `start` on.
     Sorted { start: usize },
 }
 
-/// What is known of the fields at a place.
+/// What is known of fields.
 #[derive(Clone, Copy)]
 pub(crate) struct Known {
     /// How their values are shown.
     pub(crate) keys: Keys,
-    /// No name needs an escape; it isn't said of a single field.
-    pub(crate) plain: bool,
+    /// Which escapes the names need; unknown of a single field.
+    pub(crate) escapes: Escapes,
 }
 
-/// How the value of one field is shown, or of none.
+/// Returns how the values of at most one field are shown.
 fn keys_of_few(fields: &[Field]) -> Option<Keys>
     ensures { IfSome result (λ keys. (positions : List ℕ) → AreKeys positions fields.now keys) }
 {
@@ -64,13 +67,14 @@ fn keys_of_few(fields: &[Field]) -> Option<Keys>
     }
 }
 
-/// Values that are shown as an array, since a field has no name, or two have the same.
+/// Values that are shown as an array, because a field has no name, or two have the same.
 const UNNAMED: Known = Known {
     keys: Keys::Unnamed,
-    plain: false,
+    escapes: Escapes::Unknown,
 };
 
-/// How the values of fields with this order are shown. An order of names that are out of order is kept after the positions.
+/// Returns how the values of fields with this order are shown. If their names are out of order, it
+/// appends the order to the positions.
 fn keep_order(
     fields: &[Field],
     order: &[u32],
@@ -80,23 +84,24 @@ fn keep_order(
     ensures more { (more : List ℕ) × (positions.new.items ≡ positions.old.items ++ more) }
     ensures keys { IfOk result (IsKnown positions.new.items fields.now) }
 {
-    let plain = are_plain(fields);
+    let escapes = escapes_of(fields);
     if counts_up(order) {
         return Ok(Known {
             keys: Keys::InOrder,
-            plain,
+            escapes,
         });
     }
     let start = positions.len();
     positions.extend_from_slice(order)?;
     Ok(Known {
         keys: Keys::Sorted { start },
-        plain,
+        escapes,
     })
 }
 
-/// How the values of the fields are shown. The order of names that are out of order is kept after the positions.
-fn find_keys(alloc: Global, fields: &[Field], positions: &mut Vec<u32>) -> Result<Known, AllocError>
+/// Returns how the values of the fields are shown. If their names are out of order, it appends the
+/// order to the positions.
+fn find_keys(fields: &[Field], positions: &mut Vec<u32>) -> Result<Known, AllocError>
     requires { length fields.now < 2 ^ 32 }
     ensures more { (more : List ℕ) × (positions.new.items ≡ positions.old.items ++ more) }
     ensures keys { IfOk result (IsKnown positions.new.items fields.now) }
@@ -107,21 +112,22 @@ fn find_keys(alloc: Global, fields: &[Field], positions: &mut Vec<u32>) -> Resul
             Some(order) => keep_order(fields, order.as_slice(), positions),
             None => Ok(UNNAMED),
         },
-        _ => match order_of_many(alloc, fields)? {
+        _ => match order_of_many(*positions.allocator(), fields)? {
             Some(order) => keep_order(fields, order.as_slice(), positions),
             None => Ok(UNNAMED),
         },
     }
 }
 
-/// The orders of keys that are known, four bytes a field and a small entry for each place that was met.
+/// The orders of keys that are known: four bytes a field, and a small entry for each composite and
+/// each arm.
 #[derive(Drop)]
 pub(crate) struct Orders<'r> {
     checked: &'r Checked,
-    /// What is known of the place that was asked for last of those with this slot.
-    slots: [Option<(Place, Known)>; SLOTS],
-    /// What is known of all places of the slots that more than one place has, so few places take no memory here.
-    others: BTreeMap<Place, Known>,
+    /// In each slot what is known of the fields that were asked for last of those with this slot.
+    slots: [Option<(FieldsOf, Known)>; SLOTS],
+    /// What is known of all fields whose slot others have too, so few take no memory here.
+    others: BTreeMap<FieldsOf, Known>,
     positions: Vec<u32>,
 }
 
@@ -137,7 +143,7 @@ impl<'r> Model for Orders<'r> {
 }
 
 impl<'r> Orders<'r> {
-    /// No order is known.
+    /// Returns orders of which none is known.
     pub(crate) fn new(alloc: Global, checked: &'r Checked) -> Orders<'r>
         ensures { result ≡ record { types = checked.now.types; positions = [] } }
     {
@@ -149,14 +155,19 @@ impl<'r> Orders<'r> {
         }
     }
 
-    /// The registry that the places are of.
+    /// Returns the registry that the fields are of.
     pub(crate) fn checked(&self) -> &'r Checked
         ensures { result.now.types ≡ self.now.types }
     {
         self.checked
     }
 
-    /// The position of a field in the order that is kept from `start` on.
+    /// Returns the allocator that the orders are kept with.
+    pub(crate) fn alloc(&self) -> Global {
+        *self.positions.allocator()
+    }
+
+    /// Returns the position of a field in the order that is kept from `start` on.
     pub(crate) fn position(&self, start: usize, turn: usize) -> u32
         requires { start + turn < length self.now.positions }
         ensures { result ≡ slice_index self.now.positions (start + turn) }
@@ -164,109 +175,102 @@ impl<'r> Orders<'r> {
         self.positions[start + turn]
     }
 
-    /// How the values of the fields at a place are shown: mostly one look, at most one look-up, and a search where it is
-    /// not known.
+    /// Returns how the values of the fields are shown. It looks into a slot, then into the map, and
+    /// sorts the names if neither has it.
     #[inline(always)]
-    pub(crate) fn keys(
-        &mut self,
-        alloc: Global,
-        place: Place,
-        fields: &[Field],
-    ) -> Result<Known, AllocError>
-        requires fields { fields_at self.old.types place ≡ Some fields.now }
+    pub(crate) fn keys(&mut self, of: FieldsOf, fields: &[Field]) -> Result<Known, AllocError>
+        requires fields { fields_at self.old.types of ≡ Some fields.now }
         requires few { length fields.now < 2 ^ 32 }
         ensures grows { Grows self.old self.new }
         ensures keys { IfOk result (IsKnown self.new.positions fields.now) }
     {
         if let Some(keys) = keys_of_few(fields) {
-            return Ok(Known { keys, plain: false });
+            return Ok(Known {
+                keys,
+                escapes: Escapes::Unknown,
+            });
         }
-        if let Some(known) = self.in_slot(place) {
+        if let Some(known) = self.in_slot(of) {
             return Ok(known);
         }
-        self.other_keys(alloc, place, fields)
+        self.other_keys(of, fields)
     }
 
-    /// What is known of the fields at a place, where its slot has it.
+    /// Returns what is known of the fields, if their slot has it.
     #[inline(always)]
-    fn in_slot(&self, place: Place) -> Option<Known>
-        ensures { IfSome result (AreKeysOf self.now.positions (fields_at self.now.types place)) }
+    fn in_slot(&self, of: FieldsOf) -> Option<Known>
+        ensures { IfSome result (AreKeysOf self.now.positions (fields_at self.now.types of)) }
     {
-        let (last, known) = self.last_in_slot(place)?;
-        if last.ty == place.ty && last.arm == place.arm {
+        let (last, known) = self.last_in_slot(of)?;
+        if last.ty == of.ty && last.arm == of.arm {
             Some(known)
         } else {
             None
         }
     }
 
-    /// How the values of the fields at a place are shown, where another place has its slot: as it is in the map, or as it
-    /// is found and kept. Its slot has it then.
+    /// Returns how the values of fields are shown that their slot does not have: as the map has it,
+    /// or as it is found and kept. Their slot has it then.
     #[inline(never)]
-    fn other_keys(
-        &mut self,
-        alloc: Global,
-        place: Place,
-        fields: &[Field],
-    ) -> Result<Known, AllocError>
-        requires fields { fields_at self.old.types place ≡ Some fields.now }
+    fn other_keys(&mut self, of: FieldsOf, fields: &[Field]) -> Result<Known, AllocError>
+        requires fields { fields_at self.old.types of ≡ Some fields.now }
         requires few { length fields.now < 2 ^ 32 }
         ensures grows { Grows self.old self.new }
         ensures keys { IfOk result (IsKnown self.new.positions fields.now) }
     {
-        if let Some(known) = self.in_map(place) {
-            self.put_in_slot(place, known);
+        if let Some(known) = self.in_map(of) {
+            self.put_in_slot(of, known);
             return Ok(known);
         }
-        let known = find_keys(alloc, fields, &mut self.positions)?;
-        self.keep(place, known)?;
+        let known = find_keys(fields, &mut self.positions)?;
+        self.keep(of, known)?;
         Ok(known)
     }
 
-    /// What is known of the fields at a place, where the map has it.
-    fn in_map(&self, place: Place) -> Option<Known>
-        ensures { IfSome result (AreKeysOf self.now.positions (fields_at self.now.types place)) }
+    /// Returns what is known of the fields, if the map has it.
+    fn in_map(&self, of: FieldsOf) -> Option<Known>
+        ensures { IfSome result (AreKeysOf self.now.positions (fields_at self.now.types of)) }
     {
-        self.others.get(&place).copied()
+        self.others.get(&of).copied()
     }
 
-    /// What is known of the place that was asked for last of those with the slot of this one.
+    /// Returns what the slot of these fields has: the fields that were asked for last of those with
+    /// this slot, and what is known of them.
     #[inline(always)]
-    fn last_in_slot(&self, place: Place) -> Option<(Place, Known)>
+    fn last_in_slot(&self, of: FieldsOf) -> Option<(FieldsOf, Known)>
         ensures { IfSome result (λ x. AreKeysOf self.now.positions
             (fields_at self.now.types x.0) x.1) }
     {
-        self.slots[place.slot()]
+        self.slots[of.slot()]
     }
 
-    /// The slot of a place has what is known of the fields there.
-    fn put_in_slot(&mut self, place: Place, known: Known)
-        requires { AreKeysOf self.old.positions (fields_at self.old.types place) known }
+    /// Puts what is known of the fields into their slot.
+    fn put_in_slot(&mut self, of: FieldsOf, known: Known)
+        requires { AreKeysOf self.old.positions (fields_at self.old.types of) known }
         ensures { self.new ≡ self.old }
     {
-        self.slots[place.slot()] = Some((place, known));
+        self.slots[of.slot()] = Some((of, known));
     }
 
-    /// The map has what is known of the fields at a place.
-    fn put_in_map(&mut self, place: Place, known: Known) -> Result<(), AllocError>
-        requires { AreKeysOf self.old.positions (fields_at self.old.types place) known }
+    /// Puts what is known of the fields into the map.
+    fn put_in_map(&mut self, of: FieldsOf, known: Known) -> Result<(), AllocError>
+        requires { AreKeysOf self.old.positions (fields_at self.old.types of) known }
         ensures { self.new ≡ self.old }
     {
-        self.others.insert(place, known)?;
+        self.others.insert(of, known)?;
         Ok(())
     }
 
-    /// Keeps what is known of the fields at a place in its slot. Where another place had that, both are in the map from now
-    /// on.
-    fn keep(&mut self, place: Place, known: Known) -> Result<(), AllocError>
-        requires { AreKeysOf self.old.positions (fields_at self.old.types place) known }
+    /// Keeps what is known of the fields in their slot. If other fields had it, both go into the map.
+    fn keep(&mut self, of: FieldsOf, known: Known) -> Result<(), AllocError>
+        requires { AreKeysOf self.old.positions (fields_at self.old.types of) known }
         ensures { self.new ≡ self.old }
     {
-        if let Some((last, last_known)) = self.last_in_slot(place) {
+        if let Some((last, last_known)) = self.last_in_slot(of) {
             self.put_in_map(last, last_known)?;
-            self.put_in_map(place, known)?;
+            self.put_in_map(of, known)?;
         }
-        self.put_in_slot(place, known);
+        self.put_in_slot(of, known);
         Ok(())
     }
 }

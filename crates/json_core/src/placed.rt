@@ -1,4 +1,4 @@
-//! A value's JSON text in memory of the caller's.
+//! A value's JSON text in the caller's memory.
 
 ghost use Rattle.std.specs.Prelude.{◌≡◌, ◌≤◌, length, IfOk, IfErr};
 ghost use Rattle.json.specs.Print.{escape, quoted};
@@ -7,13 +7,13 @@ ghost use Rattle.json_core.specs.Printed.{IsInFront, run_text};
 
 use crate::printing::json_text;
 use std::alloc::{AllocError, Allocator, Global};
-use token_core::{is_plain, place_bytes, place_hex};
+use token_core::{is_plain, place_hex_text, place_quoted};
 use value_core::Value;
 
 /// The most bytes that a run has: its length is a compact u32, or the u32 of its type.
 const LONGEST: usize = u32::MAX as usize;
 
-/// Copies the bytes to the front, where they have room.
+/// Copies the bytes to the front of `out`, if they fit.
 fn copy_to_front(out: &mut [u8], bytes: &[u8])
     ensures { IsInFront bytes.now out.old out.new }
 {
@@ -22,7 +22,8 @@ fn copy_to_front(out: &mut [u8], bytes: &[u8])
     }
 }
 
-/// Copies a text to the front, between quotes, where that has room: how many bytes it is.
+/// Writes a text between quotes to the front of `out`, if it fits, and returns its length with the
+/// quotes.
 fn quote_in_front(out: &mut [u8], text: &str) -> usize
     requires { escape text.now ≡ text.now }
     ensures len { result ≡ length (quoted text.now) }
@@ -30,14 +31,12 @@ fn quote_in_front(out: &mut [u8], text: &str) -> usize
 {
     let len = text.len() + 2;
     if len <= out.len() {
-        let at = place_bytes(out, 0, b"\"");
-        let at = place_bytes(out, at, text.as_bytes());
-        place_bytes(out, at, b"\"");
+        place_quoted(out, 0, text);
     }
     len
 }
 
-/// Makes a run's text of `0x` and two digits for each byte at the front, where that has room: how many bytes it is.
+/// Writes the text of a run of bytes to the front of `out`, if it fits, and returns its length.
 fn run_in_front(out: &mut [u8], bytes: &[u8]) -> usize
     requires { length bytes.now ≤ LONGEST }
     ensures len { result ≡ length (run_text bytes.now) }
@@ -45,9 +44,7 @@ fn run_in_front(out: &mut [u8], bytes: &[u8]) -> usize
 {
     let len = 2 * bytes.len() + 4;
     if len <= out.len() {
-        let at = place_bytes(out, 0, b"\"0x");
-        let at = place_hex(out, at, bytes);
-        place_bytes(out, at, b"\"");
+        place_hex_text(out, 0, bytes);
     }
     len
 }

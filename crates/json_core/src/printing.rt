@@ -16,10 +16,10 @@ use value_core::{Value, WriteFault, send};
 /// The capacity for the text of a small value, in bytes.
 const FIRST_ROOM: usize = 256;
 
-/// Why a value was not printed completely.
+/// The error of [`print`].
 #[derive(Clone, Copy, Debug, PartialEq, Eq)]
 pub enum PrintFault {
-    /// Memory was refused. Nothing was written.
+    /// An allocation failed. Nothing was written.
     OutOfMemory,
     /// A write failed; the fault reports how many bytes went out before it.
     Write(WriteFault),
@@ -45,7 +45,7 @@ pub fn json_text<A: Allocator>(alloc: Global, value: &Value<'_, A>) -> Result<St
 {
     let mut out = Output::with_room(alloc, FIRST_ROOM)?;
     let mut orders = Orders::new(alloc, value.checked());
-    write_node(alloc, &mut out, &mut orders, &value.root())?;
+    write_node(&mut out, &mut orders, &value.root())?;
     Ok(out.into_text())
 }
 
@@ -64,16 +64,16 @@ pub fn print<A: Allocator, W: WriteOnce>(
     value: &Value<'_, A>,
     sink: &mut Sink<W>,
 ) -> Result<(), PrintFault>
-    // The whole text went out.
+    // The complete text was written.
     ensures ok { OnOk result (Appends (W.contents sink.old.device) (W.contents sink.new.device)
         (json_text value.now)) }
-    // A front of it went out, and as much as is reported.
+    // As many of its first bytes were written as the error reports.
     ensures part { IfErr result (λ f. written_of f ≤ length (json_text value.now)) }
     ensures err { IfErr result (λ f. Appends (W.contents sink.old.device)
         (W.contents sink.new.device) (take (written_of f) (json_text value.now))) }
     // The writer did to the last write what the reason says.
     ensures met { IfErr result (MeetsPrint W.writes sink.new.device) }
-    // Where memory was refused there was no write.
+    // After a failed allocation nothing was written.
     ensures memory { IsErrOf result PrintFault.OutOfMemory → sink.new ≡ sink.old }
     ensures failed { sink.new.failed ≡ sink.old.failed || is_write result }
 {

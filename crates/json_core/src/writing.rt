@@ -1,10 +1,9 @@
-//! A node's JSON, written token by token.
+//! Writes a node's JSON token by token.
 
-ghost use Rattle.std.specs.Prelude.{◌≡◌, ◌<◌, ◌^◌, [], ◌∷◌, Some, length, map, false, codes, IfOk};
+ghost use Rattle.std.specs.Prelude.{◌≡◌, ◌<◌, ◌^◌, [], ◌∷◌, Some, length, map, codes, IfOk};
 ghost use Rattle.std.specs.Prelude.{OnOk, FitsSigned, ◌⊎◌, slice_get};
 ghost use Rattle.std.specs.Int.{w64};
 ghost use Rattle.std.specs.Char.{encode_utf8};
-ghost use Rattle.std.specs.Bool.{OnTrue};
 ghost use Rattle.json.specs.Token.{end_array, string};
 ghost use Rattle.json.specs.Tree.{items_tokens};
 ghost use Rattle.serde_json.specs.Data.{array, object, number, unsigned, member, no_members};
@@ -14,50 +13,51 @@ ghost use Rattle.node_core.specs.Shown.{children_of};
 ghost use Rattle.json_core.specs.Defined.{unsigned_by, signed_by};
 ghost use Rattle.json_core.specs.Json.{bytes_json, wide_json, json_seen, fields_json};
 ghost use Rattle.json_core.specs.Ordered.{fields_at, AreKeys, ArePlain, Grows};
+ghost use Rattle.token_core.specs.Plain.{OnPlain};
 ghost use Rattle.token_core.specs.Tokens.{AddsTokens, prints};
 ghost use Rattle.json_core.specs.Tokens.{AddsValue, data_at};
+ghost use Rattle.json_core.specs.declared.integer_json.IntegerJson.TheVariants.{Number};
 ghost use Rattle.json_core.specs.declared.orders.Keys.TheVariants.{InOrder, Sorted};
 
-use crate::defined::{composite_fields, defined_arm, is_long, is_long_compact};
+use crate::defined::{compact_json, composite_fields, defined_arm, integer_json};
+use crate::integer_json::IntegerJson;
 use crate::names::{FEW, name_of};
-use crate::orders::{Keys, Known, Orders, Place};
-use registry_core::Field;
+use crate::orders::{FieldsOf, Keys, Known, Orders};
+use registry_core::{Arm, Field};
 use std::alloc::{AllocError, Global};
-use token_core::Output;
+use token_core::{Escapes, Output};
 use value_core::{NodeRef, What};
 
-/// An unsigned integer: a number, or a text of its decimal digits where it is long.
-fn write_unsigned(out: &mut Output, is_long: bool, n: u128) -> Result<(), AllocError>
-    requires { is_long ≡ false → n < 2 ^ 64 }
-    ensures { AddsValue result out.old out.new (unsigned_by is_long n) }
+/// Writes an unsigned integer as a number or as a text of its decimal digits.
+fn write_unsigned(out: &mut Output, shown: IntegerJson, n: u128) -> Result<(), AllocError>
+    requires { shown ≡ Number → n < 2 ^ 64 }
+    ensures { AddsValue result out.old out.new (unsigned_by shown n) }
 {
-    if is_long {
-        out.quoted_unsigned(n)
-    } else {
-        out.unsigned(n as u64)
+    match shown {
+        IntegerJson::Number => out.unsigned(n as u64),
+        IntegerJson::Text => out.quoted_unsigned(n),
     }
 }
 
-/// A signed integer: a number, or a text of its decimal digits where it is long.
-fn write_signed(out: &mut Output, is_long: bool, n: i128) -> Result<(), AllocError>
-    requires { is_long ≡ false → FitsSigned w64 n }
-    ensures { AddsValue result out.old out.new (signed_by is_long n) }
+/// Writes a signed integer as a number or as a text of its decimal digits.
+fn write_signed(out: &mut Output, shown: IntegerJson, n: i128) -> Result<(), AllocError>
+    requires { shown ≡ Number → FitsSigned w64 n }
+    ensures { AddsValue result out.old out.new (signed_by shown n) }
 {
-    if is_long {
-        out.quoted_signed(n)
-    } else {
-        out.signed(n as i64)
+    match shown {
+        IntegerJson::Number => out.signed(n as i64),
+        IntegerJson::Text => out.quoted_signed(n),
     }
 }
 
-/// A run of bytes, in hexadecimal.
+/// Writes a run of bytes in hexadecimal.
 fn write_bytes(out: &mut Output, bytes: &[u8]) -> Result<(), AllocError>
     ensures { AddsValue result out.old out.new (bytes_json bytes.now) }
 {
     out.hex(bytes)
 }
 
-/// An integer of 256 bits, whose bytes are here with the lowest first.
+/// Writes an integer of 256 bits as a text. Its lowest byte is the first.
 fn write_wide(out: &mut Output, bytes: [u8; 32]) -> Result<(), AllocError>
     ensures { AddsValue result out.old out.new (wide_json bytes) }
 {
@@ -66,25 +66,25 @@ fn write_wide(out: &mut Output, bytes: [u8; 32]) -> Result<(), AllocError>
     write_bytes(out, &highest_first)
 }
 
-/// A text of one character.
-fn write_char(alloc: Global, out: &mut Output, x: char) -> Result<(), AllocError>
+/// Writes a text of one character.
+fn write_char(out: &mut Output, x: char) -> Result<(), AllocError>
     ensures { AddsTokens result out.old out.new (string (encode_utf8 x) ∷ []) }
 {
     let mut bytes = [0; 4];
-    out.string(alloc, x.encode_utf8(&mut bytes))
+    out.string(x.encode_utf8(&mut bytes))
 }
 
-/// How many there are, where the elements take no bytes.
-fn write_count(alloc: Global, out: &mut Output, count: u32) -> Result<(), AllocError>
+/// Writes the number of elements, if they take no bytes.
+fn write_count(out: &mut Output, count: u32) -> Result<(), AllocError>
     ensures { AddsValue result out.old out.new
         (object (member (codes "count") (number (unsigned count)) no_members)) }
 {
-    out.begin_member(alloc, "count", true)?;
+    out.begin_member("count")?;
     out.unsigned(u64::from(count))?;
     out.end_object()
 }
 
-/// The child at a position, after a step past each one before it.
+/// Returns the child at a position, after a step past each one before it.
 #[inline(always)]
 fn child_at<'v, 'r>(node: &NodeRef<'v, 'r>, position: usize) -> NodeRef<'v, 'r>
     requires { position < length (children_of node.now) }
@@ -93,8 +93,8 @@ fn child_at<'v, 'r>(node: &NodeRef<'v, 'r>, position: usize) -> NodeRef<'v, 'r>
     node.children().nth(position).unwrap()
 }
 
-/// The children of a node, in order, where there are so many of them; few are not listed, since a step past each costs less
-/// than memory for a list.
+/// Returns the children of a node, in order, if they are many. Few are not listed, because a step
+/// past each costs less than memory for a list.
 fn children<'v, 'r>(
     alloc: Global,
     count: usize,
@@ -112,12 +112,11 @@ fn children<'v, 'r>(
     Ok(children)
 }
 
-/// The child at a position and all that is below it: it is in the list, where there is one, and else it comes after a step
-/// past each child before it.
+/// Writes the child at a position and all that is below it. It takes the child from the list, if
+/// there is one, or else steps past each child before it.
 #[cycle(write)]
 #[inline(always)]
 fn write_child(
-    alloc: Global,
     out: &mut Output,
     orders: &mut Orders<'_>,
     listed: &[NodeRef<'_, '_>],
@@ -132,16 +131,15 @@ fn write_child(
     ensures grows { Grows orders.old orders.new }
 {
     match listed.get(position) {
-        Some(child) => write_node(alloc, out, orders, child),
-        None => write_node(alloc, out, orders, &child_at(node, position)),
+        Some(child) => write_node(out, orders, child),
+        None => write_node(out, orders, &child_at(node, position)),
     }
 }
 
-/// The children of a node, in order, as the items of an array that began, which doesn't end.
+/// Writes the children of a node, in order, as items of an array that has begun.
 #[cycle(write)]
 #[inline(always)]
 fn write_each(
-    alloc: Global,
     out: &mut Output,
     orders: &mut Orders<'_>,
     node: &NodeRef<'_, '_>,
@@ -152,15 +150,14 @@ fn write_each(
     ensures grows { Grows orders.old orders.new }
 {
     'children: for child in node.children() {
-        write_node(alloc, out, orders, &child)?;
+        write_node(out, orders, &child)?;
     }
     Ok(())
 }
 
-/// The children of a node as an array.
+/// Writes the children of a node as an array.
 #[cycle(write)]
 fn write_items(
-    alloc: Global,
     out: &mut Output,
     orders: &mut Orders<'_>,
     node: &NodeRef<'_, '_>,
@@ -171,25 +168,24 @@ fn write_items(
     ensures grows { Grows orders.old orders.new }
 {
     out.begin_array()?;
-    write_each(alloc, out, orders, node)?;
+    write_each(out, orders, node)?;
     out.end_array()
 }
 
-/// The children of a node as an object, each at the name of its field, where the names are in order; `plain` says that
-/// no name needs an escape.
+/// Writes the children of a node as an object, each at the name of its field, if the names are in
+/// order.
 #[cycle(write)]
 #[inline(always)]
 fn write_in_order(
-    alloc: Global,
     out: &mut Output,
     orders: &mut Orders<'_>,
     fields: &[Field],
-    plain: bool,
+    escapes: Escapes,
     node: &NodeRef<'_, '_>,
 ) -> Result<(), AllocError>
     requires types { orders.old.types ≡ node.now.types }
     requires keys { AreKeys orders.old.positions fields.now InOrder }
-    requires plain { OnTrue plain (ArePlain fields.now) }
+    requires escapes { OnPlain escapes (ArePlain fields.now) }
     requires count { length fields.now ≡ length (children_of node.now) }
     ensures adds { AddsValue result out.old out.new
         (fields_json fields.now (items_of (map json_seen (children_of node.now)))) }
@@ -197,112 +193,109 @@ fn write_in_order(
 {
     out.begin_object()?;
     'members: for (field, child) in fields.iter().zip(node.children()) {
-        out.key(alloc, name_of(field), plain)?;
-        write_node(alloc, out, orders, &child)?;
+        out.key(name_of(field), escapes)?;
+        write_node(out, orders, &child)?;
     }
     out.end_object()
 }
 
-/// The children of a node as an object, each at the name of its field, in the order that is kept from `start` on.
+/// Writes the children of a node as an object, each at the name of its field, in the order that is
+/// kept from `start` on.
 #[cycle(write)]
 fn write_sorted(
-    alloc: Global,
     out: &mut Output,
     orders: &mut Orders<'_>,
     fields: &[Field],
     start: usize,
-    plain: bool,
+    escapes: Escapes,
     node: &NodeRef<'_, '_>,
 ) -> Result<(), AllocError>
     requires types { orders.old.types ≡ node.now.types }
     requires keys { AreKeys orders.old.positions fields.now (Sorted start) }
-    requires plain { OnTrue plain (ArePlain fields.now) }
+    requires escapes { OnPlain escapes (ArePlain fields.now) }
     requires count { length fields.now ≡ length (children_of node.now) }
     ensures adds { AddsValue result out.old out.new
         (fields_json fields.now (items_of (map json_seen (children_of node.now)))) }
     ensures grows { Grows orders.old orders.new }
 {
-    let children = children(alloc, fields.len(), node)?;
+    let children = children(orders.alloc(), fields.len(), node)?;
     out.begin_object()?;
     'members: for turn in 0..fields.len() {
         let position = orders.position(start, turn) as usize;
-        out.key(alloc, name_of(&fields[position]), plain)?;
-        write_child(alloc, out, orders, &children, node, position)?;
+        out.key(name_of(&fields[position]), escapes)?;
+        write_child(out, orders, &children, node, position)?;
     }
     out.end_object()
 }
 
-/// The children of a node as the values of the fields at a place.
+/// Writes the children of a node as the values of fields.
 #[cycle(write)]
 fn write_fields(
-    alloc: Global,
     out: &mut Output,
     orders: &mut Orders<'_>,
-    place: Place,
+    of: FieldsOf,
     fields: &[Field],
     node: &NodeRef<'_, '_>,
 ) -> Result<(), AllocError>
     requires types { orders.old.types ≡ node.now.types }
-    requires fields { fields_at orders.old.types place ≡ Some fields.now }
+    requires fields { fields_at orders.old.types of ≡ Some fields.now }
     requires few { length fields.now < 2 ^ 32 }
     requires count { length fields.now ≡ length (children_of node.now) }
     ensures adds { AddsValue result out.old out.new
         (fields_json fields.now (items_of (map json_seen (children_of node.now)))) }
     ensures grows { Grows orders.old orders.new }
 {
-    let Known { keys, plain } = orders.keys(alloc, place, fields)?;
+    let Known { keys, escapes } = orders.keys(of, fields)?;
     match keys {
-        Keys::Unnamed => write_items(alloc, out, orders, node),
-        Keys::InOrder => write_in_order(alloc, out, orders, fields, plain, node),
-        Keys::Sorted { start } => write_sorted(alloc, out, orders, fields, start, plain, node),
+        Keys::Unnamed => write_items(out, orders, node),
+        Keys::InOrder => write_in_order(out, orders, fields, escapes, node),
+        Keys::Sorted { start } => write_sorted(out, orders, fields, start, escapes, node),
     }
 }
 
-/// The children of a node as the values of the fields of an arm, which is at a place and has this name: an object whose one
-/// key is the name.
+/// Writes the children of a node as the values of an arm's fields: an object whose one key is the
+/// arm's name.
 #[cycle(write)]
 fn write_arm(
-    alloc: Global,
     out: &mut Output,
     orders: &mut Orders<'_>,
-    place: Place,
-    name: &str,
-    fields: &[Field],
+    of: FieldsOf,
+    arm: &Arm,
     node: &NodeRef<'_, '_>,
 ) -> Result<(), AllocError>
     requires types { orders.old.types ≡ node.now.types }
-    requires fields { fields_at orders.old.types place ≡ Some fields.now }
-    requires few { length fields.now < 2 ^ 32 }
-    requires count { length fields.now ≡ length (children_of node.now) }
-    ensures adds { AddsValue result out.old out.new (object (member name.now
-        (fields_json fields.now (items_of (map json_seen (children_of node.now)))) no_members)) }
+    requires fields { fields_at orders.old.types of ≡ Some arm.now.fields }
+    requires few { length arm.now.fields < 2 ^ 32 }
+    requires count { length arm.now.fields ≡ length (children_of node.now) }
+    ensures adds { AddsValue result out.old out.new (object (member arm.now.name
+        (fields_json arm.now.fields (items_of (map json_seen (children_of node.now)))) no_members)) }
     ensures grows { Grows orders.old orders.new }
 {
-    let Known { keys, plain } = orders.keys(alloc, place, fields)?;
+    let (name, fields) = (arm.name.as_str(), arm.fields.as_slice());
+    let Known { keys, escapes } = orders.keys(of, fields)?;
     match keys {
         Keys::Unnamed => {
-            out.begin_array_member(alloc, name)?;
-            write_each(alloc, out, orders, node)?;
+            out.begin_array_member(name)?;
+            write_each(out, orders, node)?;
             out.end_array_member()
         }
         Keys::InOrder => {
-            out.begin_member(alloc, name, false)?;
-            write_in_order(alloc, out, orders, fields, plain, node)?;
+            out.begin_member(name)?;
+            write_in_order(out, orders, fields, escapes, node)?;
             out.end_object()
         }
         Keys::Sorted { start } => {
-            out.begin_member(alloc, name, false)?;
-            write_sorted(alloc, out, orders, fields, start, plain, node)?;
+            out.begin_member(name)?;
+            write_sorted(out, orders, fields, start, escapes, node)?;
             out.end_object()
         }
     }
 }
 
-/// A node and all that is below it. It stands in the loops over children, so that a leaf costs no call of its own.
+/// Writes a node and all that is below it.
 #[cycle(write)]
 #[inline(always)]
 pub(crate) fn write_node(
-    alloc: Global,
     out: &mut Output,
     orders: &mut Orders<'_>,
     node: &NodeRef<'_, '_>,
@@ -311,32 +304,32 @@ pub(crate) fn write_node(
     ensures adds { AddsValue result out.old out.new (json_seen node.now) }
     ensures grows { Grows orders.old orders.new }
 {
+    // Inlined into the loops over children, so that a leaf costs no call.
     let checked = orders.checked();
     let ty = node.type_id();
     match node.what() {
         What::Empty => out.null(),
         What::Bool(x) => out.boolean(x),
-        What::Char(x) => write_char(alloc, out, x),
-        What::Text => out.string(alloc, node.text().unwrap()),
+        What::Char(x) => write_char(out, x),
+        What::Text => out.string(node.text().unwrap()),
         What::Bytes => write_bytes(out, node.bytes().unwrap()),
-        What::Unsigned(n) => write_unsigned(out, is_long(checked, ty), n),
-        What::Signed(n) => write_signed(out, is_long(checked, ty), n),
+        What::Unsigned(n) => write_unsigned(out, integer_json(checked, node), n),
+        What::Signed(n) => write_signed(out, integer_json(checked, node), n),
         What::Wide(bytes) => write_wide(out, bytes),
-        What::Compact(n) => write_unsigned(out, is_long_compact(checked, ty), n),
-        What::Fields => match composite_fields(checked, ty) {
+        What::Compact(n) => write_unsigned(out, compact_json(checked, node), n),
+        What::Fields => match composite_fields(checked, node) {
             Some(fields) => {
-                let place = Place { ty: ty.0, arm: 0 };
-                write_fields(alloc, out, orders, place, fields, node)
+                let of = FieldsOf { ty: ty.0, arm: 0 };
+                write_fields(out, orders, of, fields, node)
             }
-            None => write_items(alloc, out, orders, node),
+            None => write_items(out, orders, node),
         },
         What::Arm { position: arm } => {
-            let place = Place { ty: ty.0, arm };
-            let arm = defined_arm(checked, ty, arm).unwrap();
-            let (name, fields) = (arm.name.as_str(), arm.fields.as_slice());
-            write_arm(alloc, out, orders, place, name, fields, node)
+            let of = FieldsOf { ty: ty.0, arm };
+            let arm = defined_arm(checked, node, arm).unwrap();
+            write_arm(out, orders, of, arm, node)
         }
-        What::List => write_items(alloc, out, orders, node),
-        What::Count(count) => write_count(alloc, out, count),
+        What::List => write_items(out, orders, node),
+        What::Count(count) => write_count(out, count),
     }
 }

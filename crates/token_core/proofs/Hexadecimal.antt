@@ -12,9 +12,8 @@ use Rattle.std.proofs.lemmas.Simd.{length-swz_l, get_or-swz_l_below, pick_l_whol
 use Rattle.std.proofs.Math.Seq.{take-add}
 use Rattle.hex.specs.Hex.{encode_with, encode_lower, lower_digits}
 use Rattle.hex.proofs.HexLemmas.{length-encode_with}
-use Rattle.json.specs.Filled.{Placed}
-use Rattle.json.proofs.Printed.Places.{Placed-then}
-use Rattle.token_core.proofs.Placing.{rest_after}
+use Rattle.token_core.specs.Places.{OnlyPlaced}
+use Rattle.token_core.proofs.Placing.{OnlyPlaced-then}
 use lib.Lanes.{zip2, Each1, pick_l}
 
 -- the digits of bytes after others come after the digits of these
@@ -35,60 +34,50 @@ encode_part bs at end h =
 
 -- ---- digits after digits
 
--- the digits of so many bytes are placed, and what is after them stays
+-- the digits of so many bytes are placed
 abbrev pub AreDigits : (bs old new : List ℕ) (at done : ℕ) → Type 0
-AreDigits bs old new at done = Placed old new at (encode_lower (take done bs)) (at + 2 * done)
-    × (drop (at + 2 * done) new ≡ drop (at + 2 * done) old)
+AreDigits bs old new at done = OnlyPlaced old new at (encode_lower (take done bs)) (at + 2 * done)
 
 -- none are
 pub none_placed : (bs old : List ℕ) (at : ℕ) → AreDigits bs old old at 0
 unfolding encode_with
-none_placed bs old at = (
-  record {
+none_placed bs old at = record {
+  placed = record {
     bytes = ap (λ n. take n old) (omega arith) ∙ sym (append-nil (take at old));
     moved = refl;
     len = refl;
-  },
-  refl,
-)
+  };
+  rest = refl;
+}
 
 -- those of the bytes up to a place are, and then those up to a later one
 pub next_placed : (bs old mid new : List ℕ) (at done next end : ℕ) → AreDigits bs old mid at done →
     done ≤ next → next ≤ length bs →
-    Placed mid new (at + 2 * done) (encode_lower (slice_range bs done next)) end →
-    drop end new ≡ drop end mid → AreDigits bs old new at next × (end ≡ at + 2 * next)
-next_placed bs old mid new at done next end before ordered within placed rest =
-    let part = slice_range bs done next in
-    let both = Placed-then before.0 placed in
-    let long = length-encode_with lower_digits part in
+    OnlyPlaced mid new (at + 2 * done) (encode_lower (slice_range bs done next)) end →
+    AreDigits bs old new at next × (end ≡ at + 2 * next)
+next_placed bs old mid new at done next end before ordered within last =
+    let long = length-encode_with lower_digits (slice_range bs done next) in
     let short = length-take-le (next - done) (drop done bs)
     (omega (arith, ordered, within, length-drop done bs)) in
-    let count = 2 * (next - done) in
-    let moved : end ≡ at + 2 * done + count = omega (arith, placed.moved, long, short) in
-    let there : end ≡ at + 2 * next = omega (arith, moved, ordered) in
-    let digits = subst (λ ds. Placed old new at ds end) (encode_part bs done next ordered) both in
-    let after = rest_after old mid new (at + 2 * done) count end moved rest before.1 in (
-      subst (λ n. Placed old new at (encode_lower (take next bs)) n × (drop n new ≡ drop n old))
-          there (digits, after),
-      there,
-    )
+    let there : end ≡ at + 2 * next = omega (arith, last.placed.moved, long, short, ordered) in
+    let digits = subst (λ ds. OnlyPlaced old new at ds end) (encode_part bs done next ordered)
+    (OnlyPlaced-then before last) in
+    (subst (λ n. OnlyPlaced old new at (encode_lower (take next bs)) n) there digits, there)
 
 -- after whole blocks of sixteen bytes, the digits of all that is left are
 pub all_placed : (bs old mid new : List ℕ) (at blocks end : ℕ) → blocks ≡ length bs / 16 →
     AreDigits bs old mid at (16 * blocks) →
-    Placed mid new (at + 2 * (16 * (length bs / 16)))
+    OnlyPlaced mid new (at + 2 * (16 * (length bs / 16)))
     (encode_lower (slice_range bs (16 * (length bs / 16)) (length bs))) end →
-    drop end new ≡ drop end mid →
-    Placed old new at (encode_lower bs) end × (drop end new ≡ drop end old)
-all_placed bs old mid new at blocks end e before placed rest =
+    OnlyPlaced old new at (encode_lower bs) end
+all_placed bs old mid new at blocks end e before last =
     let done = 16 * (length bs / 16) in
     let first = subst (λ n. AreDigits bs old mid at (16 * n)) e before in
     let all = next_placed bs old mid new at done (length bs) end first (omega arith) (omega arith)
-    placed rest in
-    let whole = subst (λ l. Placed old new at (encode_lower l) (at + 2 * length bs))
-    (take_all (length bs) bs (omega arith)) all.0.0 in
-    subst (λ n. Placed old new at (encode_lower bs) n × (drop n new ≡ drop n old)) (sym all.1)
-    (whole, all.0.1)
+    last in
+    let whole = subst (λ l. OnlyPlaced old new at (encode_lower l) (at + 2 * length bs))
+    (take_all (length bs) bs (omega arith)) all.0 in
+    subst (λ n. OnlyPlaced old new at (encode_lower bs) n) (sym all.1) whole
 
 -- ---- sixteen bytes at once
 

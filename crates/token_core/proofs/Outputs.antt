@@ -1,9 +1,10 @@
 -- Text that grows by tokens.
-use Rattle.std.proofs.Common.{◌≡◌, ℕ, suc, ◌+◌, ◌-◌, ◌/◌, ◌%◌, zero, get_or, slice_index, Fits, w8}
+use Rattle.std.proofs.Common.{◌≡◌, ℕ, suc, ◌+◌, ◌/◌, ◌%◌, zero, get_or, slice_index, Fits, w8}
 use Rattle.std.proofs.Common.{inl, inr, ◌^◌, ◌<◌, ◌≤◌, Bool, true, false, cond, ◌&&◌, ℤ, pos}
 use Rattle.std.proofs.Common.{negsuc, FitsSigned, List, [], ◌∷◌, ◌++◌, length, take, drop, decimal}
 use Rattle.std.proofs.Common.{refl, ap, ap₂, sym, ◌∙◌, subst, arith, IsUtf8, append_assoc}
 use Rattle.std.proofs.Common.{append-nil, length-append, length-take-le, take-append-drop, ltb-true}
+use Rattle.std.proofs.Common.{take_at}
 use Rattle.std.specs.Prelude.{Result, OnOk}
 use Rattle.std.specs.Int.{w128}
 use Rattle.std.specs.Fmt.{signed_decimal}
@@ -19,12 +20,15 @@ use Rattle.hex.specs.Hex.{encode_with, encode_lower, lower_digits}
 use Rattle.json.specs.Run.{is_plain}
 use Rattle.json.proofs.Printed.Plain.{escape_on_plain}
 use Rattle.json.specs.Filled.{Placed}
+use Rattle.json.proofs.Printed.Places.{Placed-then}
 use Rattle.json.specs.Token.{Token, begin_object, end_object, begin_array, end_array, key, string}
 use Rattle.json.specs.Print.{begins, ends, token_text, print_from, print, escape_byte, escape}
+use Rattle.json.specs.Print.{quoted}
 use Rattle.json.proofs.Printed.Strings.{escape_byte_plain}
 use Rattle.json.proofs.Printed.Tokens.{print_from-append}
 use Rattle.json.proofs.Printed.Utf8.{are_ascii, IsUtf8-are_ascii}
 use Rattle.token_core.specs.Tokens.{Text, put, prints}
+use Rattle.token_core.specs.declared.output.Role.TheVariants as role
 
 -- tokens after tokens
 pub prints_again : (w : Text) (ts us : List Token) → prints (prints w ts) us ≡ prints w (ts ++ us)
@@ -56,15 +60,18 @@ written w s b l t same says is e = ap (λ x. record { text = x; after_value = en
     ∙ ap₂ (λ (a b : List ℕ). a ++ b) (comma_of w.after_value) (append-nil (token_text t)))))
 
 -- a token that begins a value or a member is printed by its text, after a comma where one is due
-pub begun : {E : Type 0} (r : Result (Unit {0}) E) (w new : Text) (b : Bool) (l : List ℕ)
-    (t : Token) → b ≡ w.after_value → l ≡ token_text t → begins t ≡ true →
-    OnOk r (new ≡ put w b l (ends t)) → OnOk r (new ≡ prints w (t ∷ []))
-begun r w new b l t same says is =
-    on_ok_weaker r (λ e. e ∙ written w _ b l t same says is refl)
+pub begun : {E : Type 0} (r : Result (Unit {0}) E) (w new : Text) (l : List ℕ) (t : Token) →
+    l ≡ token_text t → begins t ≡ true → OnOk r (new ≡ record {
+      text = w.text ++ (cond w.after_value (44 ∷ []) [] ++ l);
+      after_value = ends t;
+    }) → OnOk r (new ≡ prints w (t ∷ []))
+begun r w new l t says is =
+    on_ok_weaker r (λ e. e ∙ written w _ w.after_value l t refl says is refl)
 
 -- and one that doesn't, with none
 pub ended : {E : Type 0} (r : Result (Unit {0}) E) (w new : Text) (t : Token) →
-    begins t ≡ false → OnOk r (new ≡ put w false (token_text t) (ends t)) →
+    begins t ≡ false →
+    OnOk r (new ≡ record { text = w.text ++ token_text t; after_value = ends t }) →
     OnOk r (new ≡ prints w (t ∷ []))
 unfolding print_from
 ended r w new t is = on_ok_weaker r (λ e. e
@@ -91,7 +98,7 @@ plain_key s e = ap (λ l. 34 ∷ (l ++ 34 ∷ 58 ∷ [])) (sym e)
 
 -- an object begins with a key that needs no escape
 pub first_key : (w : Text) (n : List ℕ) → escape n ≡ n →
-    put w w.after_value (123 ∷ 34 ∷ (n ++ 34 ∷ 58 ∷ [])) false
+    put w role.Opening (123 ∷ 34 ∷ (n ++ 34 ∷ 58 ∷ []))
     ≡ prints w (begin_object ∷ key n ∷ [])
 unfolding print_from
 first_key w n e = ap (λ s. record { text = w.text ++ s; after_value = false })
@@ -100,7 +107,7 @@ first_key w n e = ap (λ s. record { text = w.text ++ s; after_value = false })
 
 -- and with an array
 pub first_array : (w : Text) (n : List ℕ) → escape n ≡ n →
-    put w w.after_value (123 ∷ 34 ∷ (n ++ 34 ∷ 58 ∷ 91 ∷ [])) false
+    put w role.Opening (123 ∷ 34 ∷ (n ++ 34 ∷ 58 ∷ 91 ∷ []))
     ≡ prints w (begin_object ∷ key n ∷ begin_array ∷ [])
 unfolding print_from
 first_array w n e = ap (λ s. record { text = w.text ++ s; after_value = false })
@@ -110,7 +117,7 @@ first_array w n e = ap (λ s. record { text = w.text ++ s; after_value = false }
 
 -- an array and the object around it end
 pub array_member_ended : (w : Text) →
-    put w false (93 ∷ 125 ∷ []) true ≡ prints w (end_array ∷ end_object ∷ [])
+    put w role.Closing (93 ∷ 125 ∷ []) ≡ prints w (end_array ∷ end_object ∷ [])
 unfolding print_from
 array_member_ended w = ap (λ (l : List ℕ). record { text = w.text ++ l; after_value = true })
     (sym (ap (λ (l : List ℕ). l ++ 93 ∷ 125 ∷ []) (no_comma w.after_value)))
@@ -188,10 +195,14 @@ small_ascii [] e = IsAscii-nil
 small_ascii (x ∷ xs) e =
     let p = and_parts _ _ e in IsAscii-cons x xs (ltb-true _ _ p.0) (small_ascii xs p.1)
 
--- the hexadecimal digits of bytes are UTF-8
-pub hex_utf8 : (bytes : List ℕ) → IsUtf8 (encode_lower bytes)
-hex_utf8 bytes = IsUtf8-from_ascii _
-    (IsAscii-encode_with lower_digits bytes (small_ascii lower_digits refl))
+-- the JSON text of a run of bytes is UTF-8
+pub hex_utf8 : (bytes : List ℕ) → ((i : ℕ) → Fits w8 (get_or bytes i 0)) →
+    IsUtf8 (quoted (48 ∷ 120 ∷ encode_lower bytes))
+hex_utf8 bytes h = subst IsUtf8 (hex_string bytes h) (IsUtf8-append (34 ∷ 48 ∷ 120 ∷ []) _
+    (IsUtf8-are_ascii (34 ∷ 48 ∷ 120 ∷ []) refl) (IsUtf8-append (encode_lower bytes) (34 ∷ [])
+    (IsUtf8-from_ascii _
+    (IsAscii-encode_with lower_digits bytes (small_ascii lower_digits refl)))
+    (IsUtf8-are_ascii (34 ∷ []) refl)))
 
 -- a comma that may be wanted takes one byte at most
 pub comma_short : (b : Bool) → length (cond {A = List ℕ} b (44 ∷ []) []) ≤ 1
@@ -203,17 +214,49 @@ pub comma_utf8 : (b : Bool) → IsUtf8 (cond b (44 ∷ []) [])
 comma_utf8 true = IsUtf8-are_ascii (44 ∷ []) refl
 comma_utf8 false = IsUtf8-nil
 
--- UTF-8 that is placed after UTF-8 makes all up to its end UTF-8, and lies within the bytes
-pub placed_utf8 : (old new xs : List ℕ) (at end : ℕ) → Placed old new at xs end →
-    at ≤ length old → IsUtf8 (take at old) → IsUtf8 xs →
-    (end ≤ length new) × IsUtf8 (take end new)
-placed_utf8 old new xs at end p within before utf8 =
-    let both : IsUtf8 (take at old ++ xs) = IsUtf8-append (take at old) xs before utf8 in (
-      long_enough new end (ap length p.bytes ∙ length-append (take at old) xs
-          ∙ ap (λ n. n + length xs) (length-take-le at old within) ∙ sym p.moved),
-      subst IsUtf8 (sym p.bytes) both,
-    )
-  where
-    long_enough : (l : List ℕ) (n : ℕ) → length (take n l) ≡ n → n ≤ length l
-    long_enough l n e = let parts = length-append (take n l) (drop n l) in
-        omega (arith, e, ap length (take-append-drop n l), parts)
+-- ---- a text after which a comma that may be wanted was placed, and then xs
+
+module _ (items : List ℕ) (comma : Bool) {grown old mid new xs : List ℕ} {len at end n : ℕ}
+    (same : take len grown ≡ take len items) (value : old ≡ grown) (long : length old ≡ n)
+    (first : Placed old mid len (cond comma (44 ∷ []) []) at) (second : Placed mid new at xs end) where
+  -- the bytes are those that were written into
+  whole : take n (new ++ drop (length new) grown) ≡ new
+  whole = take_at new _ n (second.len ∙ first.len ∙ long)
+
+  -- the text goes on with what was placed
+  text_after : take end (take n (new ++ drop (length new) grown))
+      ≡ take len items ++ (cond comma (44 ∷ []) [] ++ xs)
+  text_after = ap (take end) whole ∙ (Placed-then first second).bytes
+      ∙ ap (λ l. l ++ (cond comma (44 ∷ []) [] ++ xs)) (ap (take len) value ∙ same)
+
+  -- it is UTF-8 again, and lies within the bytes
+  pub utf8_after : (len ≤ length items) × IsUtf8 (take len items) → length items ≤ length grown →
+      IsUtf8 xs → (end ≤ length (take n (new ++ drop (length new) grown)))
+      × IsUtf8 (take end (take n (new ++ drop (length new) grown)))
+  utf8_after before kept utf8 =
+      let ys = cond {A = List ℕ} comma (44 ∷ []) [] ++ xs in
+      let both = Placed-then first second in (
+        omega (
+          arith,
+          ap length whole,
+          both.moved,
+          both.len,
+          ap length both.bytes,
+          length-append (take len old) ys,
+          length-take-le len old (omega (arith, before.0, kept, ap length value)),
+          ap length (take-append-drop end new),
+          length-append (take end new) (drop end new),
+        ),
+        subst IsUtf8 (sym text_after) (IsUtf8-append (take len items) ys before.1
+            (IsUtf8-append _ xs (comma_utf8 comma) utf8)),
+      )
+
+  -- where xs are those of a token that begins a value or a member, the token was added
+  pub token_after : (w : Text) (t : Token) →
+      record { text = take len items; after_value = comma } ≡ w → xs ≡ token_text t →
+      begins t ≡ true → record {
+        text = take end (take n (new ++ drop (length new) grown));
+        after_value = ends t;
+      } ≡ prints w (t ∷ [])
+  token_after w t view says is = written w _ comma xs t (ap (λ v. v.after_value) view) says is
+      (text_after ∙ ap (λ v. v.text ++ (cond comma (44 ∷ []) [] ++ xs)) view)

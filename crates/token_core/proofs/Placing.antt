@@ -1,10 +1,14 @@
 -- Bytes that were written into a buffer from a place on.
-use Rattle.std.proofs.Common.{◌≡◌, ℕ, ◌+◌, ◌<◌, ◌≤◌, List, [], ◌∷◌, ◌++◌, length, take, drop, refl}
+use Rattle.std.proofs.Common.{◌≡◌, ℕ, ◌+◌, ◌<◌, ◌≤◌, List, [], ◌∷◌, ◌++◌, length, take, drop, refl, ◌-◌}
 use Rattle.std.proofs.Common.{ap, ap₂, ◌∙◌, append_assoc, drop-cons, slice_index_or, slice_set}
 use Rattle.std.proofs.Common.{subst, arith, length-append, length-take-le, length-drop, take-add}
 use Rattle.std.proofs.Common.{take_at, take-append-drop, sym}
 use Rattle.std.proofs.lemmas.List.{drop-drop, drop-set, take-set}
+use Rattle.std.proofs.lemmas.Slice.{drop-put_mid, take-put_mid}
+use borrow.Rule.Slice.PartMut.{put_mid, same_len_mid}
 use Rattle.json.specs.Filled.{Placed}
+use Rattle.json.proofs.Printed.Places.{Placed-then}
+use Rattle.token_core.specs.Places.{OnlyPlaced}
 use Rattle.token_core.proofs.Decimal.{drop_first}
 
 -- digits that were written up to an end
@@ -34,12 +38,34 @@ digits_placed old new ds at start end ends moved within written before =
       );
     }
 
--- what is after a place stays, and then what is after a later one
-pub rest_after : (old mid new : List ℕ) (at more end : ℕ) → end ≡ at + more →
-    drop end new ≡ drop end mid → drop at mid ≡ drop at old → drop end new ≡ drop end old
-rest_after old mid new at more end moved last first =
-    last ∙ ap (λ n. drop n mid) moved ∙ sym (drop-drop more at mid) ∙ ap (drop more) first
-    ∙ drop-drop more at old ∙ ap (λ n. drop n old) (sym moved)
+-- a part of the buffer that was written has what was written
+pub part_placed : (old ys xs : List ℕ) (at end : ℕ) → at ≤ end → end ≤ length old →
+    length ys ≡ end - at → ys ≡ xs → OnlyPlaced old (put_mid at (end - at) old ys) at xs end
+part_placed old ys xs at end ordered within long is =
+    let count = end - at in
+    let start : at ≤ length old = omega (arith, ordered, within) in
+    let moved : end ≡ at + length ys = omega (arith, ordered, long) in
+    let after : at + count ≤ end = omega (arith, ordered) in
+    let part = length-take-le count (drop at old)
+    (omega (arith, ordered, within, length-drop at old)) in
+    subst (λ l. OnlyPlaced old (put_mid at count old ys) at l end) is (record {
+      placed = record {
+        bytes = take-put_mid at count old ys end moved start;
+        moved = moved;
+        len = same_len_mid at count old ys (omega (arith, long, part));
+      };
+      rest = drop-put_mid at count old ys end after start long;
+    })
+
+-- a second write begins where the first ended
+pub OnlyPlaced-then : {a b c xs ys : List ℕ} {i j k : ℕ} → OnlyPlaced a b i xs j →
+    OnlyPlaced b c j ys k → OnlyPlaced a c i (xs ++ ys) k
+OnlyPlaced-then {a} {b} {c} {xs} {ys} {i} {j} {k} p q = record {
+  placed = Placed-then p.placed q.placed;
+  rest = q.rest ∙ ap (λ n. drop n b) q.placed.moved ∙ sym (drop-drop (length ys) j b)
+      ∙ ap (drop (length ys)) p.rest ∙ drop-drop (length ys) j a
+      ∙ ap (λ n. drop n a) (sym q.placed.moved);
+}
 
 -- after the first of some digits went over the last byte before a place, and this was put back, the
 -- others stand at the place

@@ -1,3 +1,4 @@
 pub mod Plain
 pub mod Tokens
 pub mod Digits
+pub mod Places

@@ -2,6 +2,13 @@
 use Rattle.std.specs.Prelude.{◌≡◌, ◌≢◌, ℕ, List, Bool, true, false}
 use Rattle.json.specs.Print.{escape}
 use Rattle.json.specs.Written.{PlainBetween}
+use Rattle.token_core.specs.declared.plain.Escapes.{Escapes}
+use Rattle.token_core.specs.declared.plain.Escapes.TheVariants as escapes
+
+-- this holds, if it is known that no escape is needed
+abbrev pub OnPlain : Escapes → Type 0 → Type 0
+OnPlain escapes.None P = P
+OnPlain escapes.Unknown P = Unit {0}
 
 -- the answer is whether no byte from i up to j needs an escape
 abbrev pub TellsPlain : Bool → List ℕ → ℕ → ℕ → Type 0

@@ -1,18 +1,31 @@
 -- Text to which tokens of JSON are printed one after the other.
-use Rattle.std.specs.Prelude.{◌≡◌, ℕ, List, [], ◌∷◌, ◌++◌, Bool, cond, fold, Result, OnOk}
+use Rattle.std.specs.Prelude.{◌≡◌, ℕ, List, [], ◌∷◌, ◌++◌, Bool, true, false, cond, fold, Result}
+use Rattle.std.specs.Prelude.{OnOk}
 use Rattle.json.specs.Token.{Token}
 use Rattle.json.specs.Print.{ends, print_from}
+use Rattle.token_core.specs.declared.output.Role.{Role}
+use Rattle.token_core.specs.declared.output.Role.TheVariants as role
 
 -- a text, and whether it ends with a value, so that a comma stands before the next
 pub record Text : Type 0 where
   pub text : List ℕ
   pub after_value : Bool
 
--- these characters after it, with a comma where one is wanted, and whether a value ends with them
-abbrev pub put : Text → Bool → List ℕ → Bool → Text
-put w comma s ends_value = record {
-  text = w.text ++ (cond comma (44 ∷ []) [] ++ s);
-  after_value = ends_value;
+-- whether a comma comes before a token of this role, by whether a value ended before it
+abbrev pub takes_comma : Role → Bool → Bool
+takes_comma role.Closing after_value = false
+takes_comma _ after_value = after_value
+
+-- whether a value ends with a token of this role
+abbrev pub ends_value : Role → Bool
+ends_value role.Opening = false
+ends_value _ = true
+
+-- the characters of a token of this role after it
+abbrev pub put : Text → Role → List ℕ → Text
+put w role s = record {
+  text = w.text ++ (cond (takes_comma role w.after_value) (44 ∷ []) [] ++ s);
+  after_value = ends_value role;
 }
 
 -- these tokens after it

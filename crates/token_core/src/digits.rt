@@ -1,18 +1,18 @@
-//! Bytes in hexadecimal digits, from 0 to 9 and a to f, the higher half of each byte first.
+//! Writes bytes in hexadecimal digits, 0 to 9 and a to f, the higher half of each byte first.
 
-ghost use Rattle.std.specs.Prelude.{◌≡◌, ◌+◌, ◌*◌, ◌/◌, ◌%◌, ◌≤◌, length, drop, map, slice_index};
+ghost use Rattle.std.specs.Prelude.{◌≡◌, ◌+◌, ◌*◌, ◌/◌, ◌%◌, ◌≤◌, length, map, slice_index};
 ghost use Rattle.hex.specs.Hex.{encode_lower, lower_digits};
-ghost use Rattle.json.specs.Filled.{Placed};
+ghost use Rattle.token_core.specs.Places.{OnlyPlaced};
 
 use std::simd::prelude::*;
 
-/// So many bytes are turned into digits at once.
+/// How many bytes are turned into digits at once.
 const BLOCK: usize = 16;
 
 /// The sixteen digits, by their value.
 const DIGITS: [u8; BLOCK] = *b"0123456789abcdef";
 
-/// The digit of each byte's higher half.
+/// Returns the digit of each byte's higher half.
 #[inline(always)]
 fn first_digits(bytes: u8x16) -> u8x16
     ensures { result ≡ map (λ x. slice_index lower_digits (x / 16)) bytes }
@@ -20,7 +20,7 @@ fn first_digits(bytes: u8x16) -> u8x16
     u8x16::from_array(DIGITS).swizzle_dyn(bytes >> u8x16::splat(4))
 }
 
-/// The digit of each byte's lower half.
+/// Returns the digit of each byte's lower half.
 #[inline(always)]
 fn second_digits(bytes: u8x16) -> u8x16
     ensures { result ≡ map (λ x. slice_index lower_digits (x % 16)) bytes }
@@ -28,24 +28,23 @@ fn second_digits(bytes: u8x16) -> u8x16
     u8x16::from_array(DIGITS).swizzle_dyn(bytes & u8x16::splat(0x0f))
 }
 
-/// These 16 bytes: the place after them. What is after it stays.
+/// Writes 16 bytes. Like each function below, it returns the position after what it wrote, and
+/// leaves the rest of the buffer unchanged.
 #[inline(always)]
 fn place_lanes(buffer: &mut [u8], at: usize, lanes: u8x16) -> usize
     requires { at + BLOCK ≤ length buffer.old }
-    ensures placed { Placed buffer.old buffer.new at lanes result }
-    ensures rest { drop result buffer.new ≡ drop result buffer.old }
+    ensures { OnlyPlaced buffer.old buffer.new at lanes result }
 {
     lanes.copy_to_slice(&mut buffer[at..]);
     at + BLOCK
 }
 
-/// Two digits for each of these 16 bytes, which are turned at once: the place after them. What is after it stays.
+/// Writes two digits for each of 16 bytes, which are turned at once.
 #[inline(always)]
 fn place_block(buffer: &mut [u8], at: usize, bytes: &[u8]) -> usize
     requires block { length bytes.now ≡ BLOCK }
     requires room { at + 2 * BLOCK ≤ length buffer.old }
-    ensures placed { Placed buffer.old buffer.new at (encode_lower bytes.now) result }
-    ensures rest { drop result buffer.new ≡ drop result buffer.old }
+    ensures { OnlyPlaced buffer.old buffer.new at (encode_lower bytes.now) result }
 {
     let bytes = u8x16::from_slice(bytes);
     let (first, second) = (first_digits(bytes), second_digits(bytes));
@@ -61,25 +60,22 @@ fn place_block(buffer: &mut [u8], at: usize, bytes: &[u8]) -> usize
     place_lanes(buffer, at, back)
 }
 
-/// Two digits for each of these bytes, one after the other: the place after them. What is after it stays.
+/// Writes two digits for each byte, one byte at a time.
 #[inline(always)]
 fn place_each(buffer: &mut [u8], at: usize, bytes: &[u8]) -> usize
     requires { at + 2 * length bytes.now ≤ length buffer.old }
-    ensures placed { Placed buffer.old buffer.new at (encode_lower bytes.now) result }
-    ensures rest { drop result buffer.new ≡ drop result buffer.old }
+    ensures { OnlyPlaced buffer.old buffer.new at (encode_lower bytes.now) result }
 {
     let end = at + 2 * bytes.len();
     hex::encode_to_slice(bytes, &mut buffer[at..end]).unwrap();
     end
 }
 
-/// Two hexadecimal digits, from 0 to 9 and a to f, for each of these bytes, the higher half first: the place after them.
-/// What is after it stays.
+/// Writes two digits for each byte.
 #[inline(always)]
-pub fn place_hex(buffer: &mut [u8], at: usize, bytes: &[u8]) -> usize
+pub(crate) fn place_hex(buffer: &mut [u8], at: usize, bytes: &[u8]) -> usize
     requires { at + 2 * length bytes.now ≤ length buffer.old }
-    ensures placed { Placed buffer.old buffer.new at (encode_lower bytes.now) result }
-    ensures rest { drop result buffer.new ≡ drop result buffer.old }
+    ensures { OnlyPlaced buffer.old buffer.new at (encode_lower bytes.now) result }
 {
     'turns: for block in 0..bytes.len() / BLOCK {
         let from = BLOCK * block;

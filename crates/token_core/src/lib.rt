@@ -1,12 +1,12 @@
-//! JSON text that grows by tokens.
+//! A writer of JSON text, token by token.
 #![tactic(auto)]
 
 mod digits;
 mod output;
 mod places;
 mod plain;
+mod strings;
 
-pub use digits::place_hex;
 pub use output::Output;
-pub use places::place_bytes;
-pub use plain::is_plain;
+pub use plain::{Escapes, is_plain};
+pub use strings::{place_hex_text, place_quoted};

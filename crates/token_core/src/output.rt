@@ -1,6 +1,6 @@
-//! JSON text that grows by tokens.
+//! A writer of JSON text, token by token.
 
-ghost use Rattle.std.specs.Prelude.{◌≡◌, ◌+◌, ◌≤◌, ◌<◌, ◌++◌, [], ◌∷◌, true, false, codes, decimal};
+ghost use Rattle.std.specs.Prelude.{◌≡◌, ◌+◌, ◌≤◌, ◌++◌, [], ◌∷◌, false, codes, decimal};
 ghost use Rattle.std.specs.Prelude.{length, take, string_bytes, OnOk, IfOk};
 ghost use Rattle.std.specs.Bool.{OnTrue};
 ghost use Rattle.std.specs.Fmt.{signed_decimal};
@@ -8,35 +8,41 @@ ghost use Rattle.hex.specs.Hex.{encode_lower};
 ghost use Rattle.json.specs.Token.{begin_object, end_object, begin_array, end_array, key, string};
 ghost use Rattle.json.specs.Token.{number, boolean, null};
 ghost use Rattle.json.specs.Print.{escape};
+ghost use Rattle.token_core.specs.Plain.{OnPlain};
 
-use crate::digits::place_hex;
-use crate::places::{place_byte, place_bytes, place_comma, place_decimal, place_long};
-use crate::plain::is_plain;
+use crate::places::{
+    place_between, place_byte, place_bytes, place_comma, place_decimal, place_long,
+};
+use crate::plain::{Escapes, is_plain};
+use crate::strings::place_hex_text;
 use json::Writer;
 use std::alloc::{AllocError, Global};
 use std::marker::Model;
 
-/// So many zeros at most are put after a text beside those that a token asks for.
+/// The most zeros that are appended beyond those that a token needs.
 const AHEAD: usize = 16 * 1024;
 
-/// From so many bytes on a text is long.
+/// The length in bytes from which on the capacity grows by a quarter.
 const LONG: usize = 1024 * 1024;
 
-/// Zeros that are put after a text, to be written over.
+/// Zeros to append, which tokens overwrite.
 static ZEROS: [u8; 4096] = [0; 4096];
 
-/// JSON text that grows by tokens (RFC 8259): it places the commas and the colons, and leaves the nesting to its caller. It
-/// takes room for up to twice the text, a quarter more above a mebibyte, and for the longest text that is escaped.
+/// A writer of JSON text, token by token (RFC 8259). It places commas and colons; the caller nests
+/// arrays and objects.
 ///
-/// Each call that adds a token takes time in proportion to the token. It refuses with `AllocError` where memory was refused;
-/// nothing is promised of the text then, and it is to be dropped.
+/// The capacity is at most twice the length of the text, and above a mebibyte at most a quarter
+/// more. Besides, the writer allocates as much as the longest text with an escape. A method that
+/// appends a token takes time in proportion to the token.
+///
+/// After an `AllocError` the text is unspecified, and the writer is to be dropped.
 #[derive(Drop)]
 pub struct Output {
-    /// The text, and zeros after it to be written over, so that a token asks for room once.
+    /// The text, and zeros after it that tokens overwrite, so that a token asks for capacity once.
     bytes: Vec<u8>,
     len: usize,
     after_value: bool,
-    /// Where texts are escaped before they are put, kept for its room.
+    /// The buffer in which texts are escaped, kept for its capacity.
     escaped: Vec<u8>,
 }
 
@@ -52,7 +58,7 @@ impl Model for Output {
     ghost invariant = { λ o. (o.len ≤ length o.bytes.items) × IsUtf8 (take o.len o.bytes.items) };
 }
 
-/// Room for so many bytes after the first `len`.
+/// Ensures that `more` bytes follow the first `len`.
 #[inline(always)]
 fn make_room(bytes: &mut Vec<u8>, len: usize, more: usize) -> Result<(), AllocError>
     requires { len ≤ length bytes.old.items }
@@ -66,8 +72,8 @@ fn make_room(bytes: &mut Vec<u8>, len: usize, more: usize) -> Result<(), AllocEr
     grow(bytes, more)
 }
 
-/// So many zeros more, or as many as there is room for, up to `AHEAD`. The room doubles, and from `LONG` bytes on it
-/// grows by a quarter.
+/// Appends `more` zeros at least, and up to `AHEAD` if the capacity suffices. The capacity doubles,
+/// and from `LONG` bytes on it grows by a quarter.
 #[cold]
 #[inline(never)]
 fn grow(bytes: &mut Vec<u8>, more: usize) -> Result<(), AllocError>
@@ -90,19 +96,57 @@ fn grow(bytes: &mut Vec<u8>, more: usize) -> Result<(), AllocError>
     Ok(())
 }
 
-/// Does the name need no escape? Where `plain` says so, it isn't looked at.
+/// Returns whether the name needs no escape, and looks at it only if that is unknown.
 #[inline(always)]
-fn is_known_plain(name: &str, plain: bool) -> bool
-    requires { OnTrue plain (escape name.now ≡ name.now) }
+fn is_known_plain(name: &str, escapes: Escapes) -> bool
+    requires { OnPlain escapes (escape name.now ≡ name.now) }
     ensures { OnTrue result (escape name.now ≡ name.now) }
 {
-    plain || is_plain(name)
+    match escapes {
+        Escapes::None => true,
+        Escapes::Unknown => is_plain(name),
+    }
+}
+
+/// How a token stands to the values around it.
+#[derive(Clone, Copy)]
+enum Role {
+    /// Begins a value or a member. A comma comes before it if a value ended there.
+    Opening,
+    /// Is a value. A comma comes before it if a value ended there.
+    Value,
+    /// Ends a value. No comma comes before it.
+    Closing,
+}
+
+impl Role {
+    ghost use Rattle.token_core.specs.Tokens.{takes_comma, ends_value};
+
+    /// Returns whether a comma comes before such a token.
+    #[inline(always)]
+    fn takes_comma(self, after_value: bool) -> bool
+        ensures { result ≡ takes_comma self after_value }
+    {
+        after_value && !matches!(self, Role::Closing)
+    }
+
+    /// Returns whether a value ends with such a token.
+    #[inline(always)]
+    fn ends_value(self) -> bool
+        ensures { result ≡ ends_value self }
+    {
+        !matches!(self, Role::Opening)
+    }
 }
 
 impl Output {
     ghost use Rattle.token_core.specs.Tokens.{AddsTokens, put};
 
-    /// An empty text with room for so many bytes.
+    /// Returns a writer whose text is empty, with a capacity of `room` bytes.
+    ///
+    /// # Errors
+    ///
+    /// `AllocError` if an allocation fails.
     pub fn with_room(alloc: Global, room: usize) -> Result<Output, AllocError>
         ensures { IfOk result (λ o. o ≡ record { text = []; after_value = false }) }
     {
@@ -114,7 +158,7 @@ impl Output {
         })
     }
 
-    /// The text.
+    /// Returns the text.
     pub fn into_text(self) -> String
         ensures { string_bytes result ≡ self.text }
     {
@@ -123,92 +167,119 @@ impl Output {
         unsafe { String::from_utf8_unchecked(bytes) }
     }
 
-    /// These characters, after a comma where one is wanted.
+    /// Appends the characters of a token.
     #[inline(always)]
-    fn put(&mut self, comma: bool, characters: &str, ends_value: bool) -> Result<(), AllocError>
-        ensures { OnOk result (self.new ≡ put self.old comma characters.now ends_value) }
+    fn put(&mut self, role: Role, characters: &str) -> Result<(), AllocError>
+        ensures { OnOk result (self.new ≡ put self.old role characters.now) }
     {
         make_room(&mut self.bytes, self.len, characters.len() + 1)?;
         let buffer = self.bytes.as_mut_slice();
-        let at = place_comma(buffer, self.len, comma);
+        let at = place_comma(buffer, self.len, role.takes_comma(self.after_value));
         self.len = place_bytes(buffer, at, characters.as_bytes());
-        self.after_value = ends_value;
+        self.after_value = role.ends_value();
         Ok(())
     }
 
-    /// These characters between quotes, where none of them needs an escape; `opening` has the first quote, and the brace in
-    /// front of a first key, and `closing` the second quote, a key's colon, and the bracket of an array after it.
+    /// Appends characters that need no escape. `opening` is the first quote, after the brace of a
+    /// first key. `closing` is the second quote, then a key's colon, and the `[` of an array after it.
     #[inline(always)]
     fn put_plain(
         &mut self,
+        role: Role,
         opening: &str,
         characters: &str,
         closing: &str,
-        ends_value: bool,
     ) -> Result<(), AllocError>
         requires { (length opening.now ≤ 2) × (length closing.now ≤ 3) }
-        ensures { OnOk result (self.new ≡ put self.old self.old.after_value
-            (opening.now ++ (characters.now ++ closing.now)) ends_value) }
+        ensures { OnOk result (self.new ≡ put self.old role
+            (opening.now ++ (characters.now ++ closing.now))) }
     {
         make_room(&mut self.bytes, self.len, characters.len() + 6)?;
         let buffer = self.bytes.as_mut_slice();
-        let at = place_comma(buffer, self.len, self.after_value);
-        let at = place_bytes(buffer, at, opening.as_bytes());
-        let at = place_bytes(buffer, at, characters.as_bytes());
-        self.len = place_bytes(buffer, at, closing.as_bytes());
-        self.after_value = ends_value;
+        let at = place_comma(buffer, self.len, role.takes_comma(self.after_value));
+        let (opening, closing) = (opening.as_bytes(), closing.as_bytes());
+        self.len = place_between(buffer, at, opening, characters.as_bytes(), closing);
+        self.after_value = role.ends_value();
         Ok(())
     }
 
-    /// An object begins.
+    /// Appends the `{` of an object.
+    ///
+    /// # Errors
+    ///
+    /// `AllocError` if an allocation fails.
     #[inline(always)]
     pub fn begin_object(&mut self) -> Result<(), AllocError>
         ensures { AddsTokens result self.old self.new (begin_object ∷ []) }
     {
-        self.put(self.after_value, "{", false)
+        self.put(Role::Opening, "{")
     }
 
-    /// The object that began last ends.
+    /// Appends the `}` of the object that began last.
+    ///
+    /// # Errors
+    ///
+    /// `AllocError` if an allocation fails.
     #[inline(always)]
     pub fn end_object(&mut self) -> Result<(), AllocError>
         ensures { AddsTokens result self.old self.new (end_object ∷ []) }
     {
-        self.put(false, "}", true)
+        self.put(Role::Closing, "}")
     }
 
-    /// An array begins.
+    /// Appends the `[` of an array.
+    ///
+    /// # Errors
+    ///
+    /// `AllocError` if an allocation fails.
     #[inline(always)]
     pub fn begin_array(&mut self) -> Result<(), AllocError>
         ensures { AddsTokens result self.old self.new (begin_array ∷ []) }
     {
-        self.put(self.after_value, "[", false)
+        self.put(Role::Opening, "[")
     }
 
-    /// The array that began last ends.
+    /// Appends the `]` of the array that began last.
+    ///
+    /// # Errors
+    ///
+    /// `AllocError` if an allocation fails.
     #[inline(always)]
     pub fn end_array(&mut self) -> Result<(), AllocError>
         ensures { AddsTokens result self.old self.new (end_array ∷ []) }
     {
-        self.put(false, "]", true)
+        self.put(Role::Closing, "]")
     }
 
-    /// `null`.
+    /// Appends `null`.
+    ///
+    /// # Errors
+    ///
+    /// `AllocError` if an allocation fails.
     #[inline(always)]
     pub fn null(&mut self) -> Result<(), AllocError>
         ensures { AddsTokens result self.old self.new (null ∷ []) }
     {
-        self.put(self.after_value, "null", true)
+        self.put(Role::Value, "null")
     }
 
-    /// `true` or `false`.
+    /// Appends `true` or `false`.
+    ///
+    /// # Errors
+    ///
+    /// `AllocError` if an allocation fails.
     #[inline(always)]
     pub fn boolean(&mut self, x: bool) -> Result<(), AllocError>
         ensures { AddsTokens result self.old self.new (boolean x ∷ []) }
     {
-        self.put(self.after_value, if x { "true" } else { "false" }, true)
+        self.put(Role::Value, if x { "true" } else { "false" })
     }
 
-    /// A number from 0.
+    /// Appends an unsigned number.
+    ///
+    /// # Errors
+    ///
+    /// `AllocError` if an allocation fails.
     #[inline(always)]
     pub fn unsigned(&mut self, n: u64) -> Result<(), AllocError>
         ensures { AddsTokens result self.old self.new (number (decimal n) ∷ []) }
@@ -221,16 +292,24 @@ impl Output {
         Ok(())
     }
 
-    /// A number.
+    /// Appends a number.
+    ///
+    /// # Errors
+    ///
+    /// `AllocError` if an allocation fails.
     #[inline(always)]
     pub fn signed(&mut self, n: i64) -> Result<(), AllocError>
         ensures { AddsTokens result self.old self.new (number (signed_decimal n) ∷ []) }
     {
         let mut buffer = itoa::Buffer::new();
-        self.put(self.after_value, buffer.format(n), true)
+        self.put(Role::Value, buffer.format(n))
     }
 
-    /// A number from 0 as a text of its digits.
+    /// Appends an unsigned number as a text of its decimal digits.
+    ///
+    /// # Errors
+    ///
+    /// `AllocError` if an allocation fails.
     pub fn quoted_unsigned(&mut self, n: u128) -> Result<(), AllocError>
         ensures { AddsTokens result self.old self.new (string (decimal n) ∷ []) }
     {
@@ -244,105 +323,131 @@ impl Output {
         Ok(())
     }
 
-    /// A number as a text of its digits.
+    /// Appends a number as a text of its decimal digits.
+    ///
+    /// # Errors
+    ///
+    /// `AllocError` if an allocation fails.
     pub fn quoted_signed(&mut self, n: i128) -> Result<(), AllocError>
         ensures { AddsTokens result self.old self.new (string (signed_decimal n) ∷ []) }
     {
         let mut buffer = itoa::Buffer::new();
-        self.put_plain("\"", buffer.format(n), "\"", true)
+        self.put_plain(Role::Value, "\"", buffer.format(n), "\"")
     }
 
-    /// A key and its colon. Where `plain` is not said, it is found out whether the name needs an escape.
+    /// Appends a key and its colon. It looks for escapes only if they are unknown.
+    ///
+    /// # Errors
+    ///
+    /// `AllocError` if an allocation fails.
     #[inline(always)]
-    pub fn key(&mut self, alloc: Global, name: &str, plain: bool) -> Result<(), AllocError>
-        requires { OnTrue plain (escape name.now ≡ name.now) }
+    pub fn key(&mut self, name: &str, escapes: Escapes) -> Result<(), AllocError>
+        requires { OnPlain escapes (escape name.now ≡ name.now) }
         ensures { AddsTokens result self.old self.new (key name.now ∷ []) }
     {
-        if is_known_plain(name, plain) {
-            return self.put_plain("\"", name, "\":", false);
+        if is_known_plain(name, escapes) {
+            return self.put_plain(Role::Opening, "\"", name, "\":");
         }
-        self.escaped_key(alloc, name)
+        self.escaped_key(name)
     }
 
-    /// An object begins, with a key and its colon. Where `plain` is not said, it is found out whether the name needs an
-    /// escape.
+    /// Appends the `{` of an object, its first key, and the colon.
+    ///
+    /// # Errors
+    ///
+    /// `AllocError` if an allocation fails.
     #[inline(always)]
-    pub fn begin_member(&mut self, alloc: Global, name: &str, plain: bool) -> Result<(), AllocError>
-        requires { OnTrue plain (escape name.now ≡ name.now) }
+    pub fn begin_member(&mut self, name: &str) -> Result<(), AllocError>
         ensures { AddsTokens result self.old self.new (begin_object ∷ key name.now ∷ []) }
     {
-        if is_known_plain(name, plain) {
-            return self.put_plain("{\"", name, "\":", false);
+        if is_plain(name) {
+            return self.put_plain(Role::Opening, "{\"", name, "\":");
         }
         self.begin_object()?;
-        self.escaped_key(alloc, name)
+        self.escaped_key(name)
     }
 
-    /// An object begins, with a key and its colon, and then an array.
+    /// Appends the `{` of an object, its first key, the colon, and the `[` of an array.
+    ///
+    /// # Errors
+    ///
+    /// `AllocError` if an allocation fails.
     #[inline(always)]
-    pub fn begin_array_member(&mut self, alloc: Global, name: &str) -> Result<(), AllocError>
+    pub fn begin_array_member(&mut self, name: &str) -> Result<(), AllocError>
         ensures { AddsTokens result self.old self.new
             (begin_object ∷ key name.now ∷ begin_array ∷ []) }
     {
         if is_plain(name) {
-            return self.put_plain("{\"", name, "\":[", false);
+            return self.put_plain(Role::Opening, "{\"", name, "\":[");
         }
         self.begin_object()?;
-        self.escaped_key(alloc, name)?;
+        self.escaped_key(name)?;
         self.begin_array()
     }
 
-    /// An array ends, and the object that it is the last value of.
+    /// Appends the `]` of an array and the `}` of the object whose last value it is.
+    ///
+    /// # Errors
+    ///
+    /// `AllocError` if an allocation fails.
     #[inline(always)]
     pub fn end_array_member(&mut self) -> Result<(), AllocError>
         ensures { AddsTokens result self.old self.new (end_array ∷ end_object ∷ []) }
     {
-        self.put(false, "]}", true)
+        self.put(Role::Closing, "]}")
     }
 
-    /// A key, some of whose characters need an escape, and its colon.
+    /// Appends a key that needs an escape, and its colon.
     #[inline(never)]
-    fn escaped_key(&mut self, alloc: Global, name: &str) -> Result<(), AllocError>
+    fn escaped_key(&mut self, name: &str) -> Result<(), AllocError>
         ensures { AddsTokens result self.old self.new (key name.now ∷ []) }
     {
-        let mut room = std::mem::replace(&mut self.escaped, Vec::new(alloc));
+        let mut room = std::mem::replace(&mut self.escaped, Vec::new(*self.bytes.allocator()));
         room.clear();
         let mut escaped = Writer::new(room);
         escaped.key(name)?;
         let escaped = unsafe { String::from_utf8_unchecked(escaped.into_inner()) };
-        self.put(self.after_value, escaped.as_str(), false)?;
+        self.put(Role::Opening, escaped.as_str())?;
         self.escaped = escaped.into_bytes();
         Ok(())
     }
 
-    /// A text.
+    /// Appends a text.
+    ///
+    /// # Errors
+    ///
+    /// `AllocError` if an allocation fails.
     #[inline(always)]
-    pub fn string(&mut self, alloc: Global, text: &str) -> Result<(), AllocError>
+    pub fn string(&mut self, text: &str) -> Result<(), AllocError>
         ensures { AddsTokens result self.old self.new (string text.now ∷ []) }
     {
         if is_plain(text) {
-            self.put_plain("\"", text, "\"", true)
+            self.put_plain(Role::Value, "\"", text, "\"")
         } else {
-            self.escaped(alloc, text)
+            self.escaped(text)
         }
     }
 
-    /// A text, some of whose characters need an escape.
+    /// Appends a text that needs an escape.
     #[inline(never)]
-    fn escaped(&mut self, alloc: Global, text: &str) -> Result<(), AllocError>
+    fn escaped(&mut self, text: &str) -> Result<(), AllocError>
         ensures { AddsTokens result self.old self.new (string text.now ∷ []) }
     {
-        let mut room = std::mem::replace(&mut self.escaped, Vec::new(alloc));
+        let mut room = std::mem::replace(&mut self.escaped, Vec::new(*self.bytes.allocator()));
         room.clear();
         let mut escaped = Writer::new(room);
         escaped.string(text)?;
         let escaped = unsafe { String::from_utf8_unchecked(escaped.into_inner()) };
-        self.put(self.after_value, escaped.as_str(), true)?;
+        self.put(Role::Value, escaped.as_str())?;
         self.escaped = escaped.into_bytes();
         Ok(())
     }
 
-    /// A text of `0x` and two hexadecimal digits for each byte.
+    /// Appends a text of `0x` and two hexadecimal digits for each byte.
+    ///
+    /// # Errors
+    ///
+    /// `AllocError` if an allocation fails, or if the text would be longer than a `usize` can say.
     pub fn hex(&mut self, bytes: &[u8]) -> Result<(), AllocError>
         ensures { AddsTokens result self.old self.new
             (string (codes "0x" ++ encode_lower bytes.now) ∷ []) }
@@ -356,9 +461,7 @@ impl Output {
         make_room(&mut self.bytes, self.len, room)?;
         let buffer = self.bytes.as_mut_slice();
         let at = place_comma(buffer, self.len, self.after_value);
-        let at = place_bytes(buffer, at, b"\"0x");
-        let at = place_hex(buffer, at, bytes);
-        self.len = place_byte(buffer, at, b'"');
+        self.len = place_hex_text(buffer, at, bytes);
         self.after_value = true;
         Ok(())
     }

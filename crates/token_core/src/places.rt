@@ -1,14 +1,15 @@
-//! Bytes written into a buffer from a place on.
+//! Writes bytes into a buffer from a position on.
 
-ghost use Rattle.std.specs.Prelude.{◌≡◌, ◌+◌, ◌≤◌, ◌<◌, [], ◌∷◌, length, drop, cond};
+ghost use Rattle.std.specs.Prelude.{◌≡◌, ◌+◌, ◌≤◌, ◌<◌, [], ◌∷◌, ◌++◌, length, cond};
 ghost use Rattle.std.specs.Fmt.{decimal};
 ghost use Rattle.json.specs.Filled.{Placed};
 ghost use Rattle.token_core.specs.Digits.{last_digits};
+ghost use Rattle.token_core.specs.Places.{OnlyPlaced};
 
-/// Ten to the sixteenth: a number has its last sixteen digits below it.
+/// Ten to the sixteenth. The last sixteen digits of a number are the remainder by it.
 const UNIT: u64 = 10_000_000_000_000_000;
 
-/// One byte. Like the calls below it answers where the next goes.
+/// Writes one byte. Like each function below, it returns the position after what it wrote.
 #[inline(always)]
 pub(crate) fn place_byte(buffer: &mut [u8], at: usize, byte: u8) -> usize
     requires { at < length buffer.old }
@@ -18,7 +19,7 @@ pub(crate) fn place_byte(buffer: &mut [u8], at: usize, byte: u8) -> usize
     at + 1
 }
 
-/// A comma where one is wanted. Else it is only written, and the next byte goes over it.
+/// Writes a comma if one is wanted. Otherwise the next byte overwrites it.
 #[inline(always)]
 pub(crate) fn place_comma(buffer: &mut [u8], at: usize, wanted: bool) -> usize
     requires { at < length buffer.old }
@@ -28,19 +29,36 @@ pub(crate) fn place_comma(buffer: &mut [u8], at: usize, wanted: bool) -> usize
     at + usize::from(wanted)
 }
 
-/// These bytes: the place after them. What is after it stays.
+/// Writes these bytes. The rest of the buffer is unchanged.
 #[inline(always)]
-pub fn place_bytes(buffer: &mut [u8], at: usize, bytes: &[u8]) -> usize
+pub(crate) fn place_bytes(buffer: &mut [u8], at: usize, bytes: &[u8]) -> usize
     requires { at + length bytes.now ≤ length buffer.old }
-    ensures placed { Placed buffer.old buffer.new at bytes.now result }
-    ensures rest { drop result buffer.new ≡ drop result buffer.old }
+    ensures { OnlyPlaced buffer.old buffer.new at bytes.now result }
 {
     let end = at + bytes.len();
     buffer[at..end].copy_from_slice(bytes);
     end
 }
 
-/// How many decimal digits the number has.
+/// Writes these bytes between others. The rest of the buffer is unchanged.
+#[inline(always)]
+pub(crate) fn place_between(
+    buffer: &mut [u8],
+    at: usize,
+    opening: &[u8],
+    bytes: &[u8],
+    closing: &[u8],
+) -> usize
+    requires { at + length opening.now + length bytes.now + length closing.now ≤ length buffer.old }
+    ensures { OnlyPlaced buffer.old buffer.new at
+        (opening.now ++ (bytes.now ++ closing.now)) result }
+{
+    let at = place_bytes(buffer, at, opening);
+    let at = place_bytes(buffer, at, bytes);
+    place_bytes(buffer, at, closing)
+}
+
+/// Returns how many decimal digits the number has.
 #[inline(always)]
 fn digit_count(n: u64) -> usize
     ensures { result ≡ length (decimal n) }
@@ -58,7 +76,7 @@ fn digit_count(n: u64) -> usize
     }
 }
 
-/// The number in decimal digits.
+/// Writes the number in decimal digits.
 #[inline(always)]
 pub(crate) fn place_decimal(buffer: &mut [u8], at: usize, n: u64) -> usize
     requires { at + 20 ≤ length buffer.old }
@@ -69,8 +87,8 @@ pub(crate) fn place_decimal(buffer: &mut [u8], at: usize, n: u64) -> usize
     end
 }
 
-/// Sixteen digits, those of a number below the unit with zeros in front, right after others. The number is written with
-/// the unit, whose first digit goes over the last of the others for a moment.
+/// Writes a number below the unit in sixteen digits, right after others. The sum of the number and
+/// the unit is written, and then the last of the others again, over the sum's first digit.
 #[inline(always)]
 fn place_last(buffer: &mut [u8], at: usize, low: u64) -> usize
     requires after { 1 ≤ at }
@@ -84,7 +102,7 @@ fn place_last(buffer: &mut [u8], at: usize, low: u64) -> usize
     at + 16
 }
 
-/// The number in decimal digits, sixteen at a time where it has more than 64 bits.
+/// Writes the number in decimal digits, sixteen at a time if it has more than 64 bits.
 pub(crate) fn place_long(buffer: &mut [u8], at: usize, n: u128) -> usize
     requires { at + 39 ≤ length buffer.old }
     ensures { Placed buffer.old buffer.new at (decimal n) result }

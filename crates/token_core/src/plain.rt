@@ -1,11 +1,20 @@
-//! Whether a text stands in JSON as it is.
+//! Tests whether a text stands in JSON as it is.
 
 ghost use Rattle.std.specs.Prelude.{◌+◌, ◌≤◌, length};
 ghost use Rattle.token_core.specs.Plain.{TellsAsIs, TellsPlain};
 
 use std::simd::prelude::*;
 
-/// Does no byte of these 16 need an escape?
+/// What is known of the escapes that a name needs.
+#[derive(Clone, Copy)]
+pub enum Escapes {
+    /// It needs none.
+    None,
+    /// It may need some.
+    Unknown,
+}
+
+/// Returns whether none of 16 bytes needs an escape.
 #[inline(always)]
 fn is_plain_16(text: &[u8], at: usize) -> bool
     requires { at + 16 ≤ length text.now }
@@ -16,7 +25,7 @@ fn is_plain_16(text: &[u8], at: usize) -> bool
     (marked | bytes.simd_lt(u8x16::splat(0x20))).to_bitmask() == 0
 }
 
-/// Does no byte of these eight need an escape?
+/// Returns whether none of eight bytes needs an escape.
 #[inline(always)]
 fn is_plain_8(text: &[u8], at: usize) -> bool
     requires { at + 8 ≤ length text.now }
@@ -27,7 +36,7 @@ fn is_plain_8(text: &[u8], at: usize) -> bool
     (marked | bytes.simd_lt(u8x8::splat(0x20))).to_bitmask() == 0
 }
 
-/// Does no byte of these four need an escape?
+/// Returns whether none of four bytes needs an escape.
 #[inline(always)]
 fn is_plain_4(text: &[u8], at: usize) -> bool
     requires { at + 4 ≤ length text.now }
@@ -38,7 +47,7 @@ fn is_plain_4(text: &[u8], at: usize) -> bool
     (marked | bytes.simd_lt(u8x4::splat(0x20))).to_bitmask() == 0
 }
 
-/// Does no byte need an escape? One at a time.
+/// Returns whether no byte needs an escape, one byte at a time.
 #[inline(always)]
 fn is_plain_bytewise(text: &[u8]) -> bool
     ensures { TellsPlain result text.now 0 (length text.now) }
@@ -51,7 +60,7 @@ fn is_plain_bytewise(text: &[u8]) -> bool
     true
 }
 
-/// Does no byte need an escape? 16 at a time, the last of them again where they don't come out even.
+/// Returns whether no byte needs an escape, 16 bytes at a time; the last 16 may overlap others.
 #[inline(always)]
 fn is_plain_long(text: &[u8]) -> bool
     requires { 16 ≤ length text.now }
@@ -67,8 +76,8 @@ fn is_plain_long(text: &[u8]) -> bool
     is_plain_16(text, text.len() - 16)
 }
 
-/// Does the text stand between quotes as it is, since none of its bytes needs an escape (RFC 8259, "Strings")? It takes a
-/// look at each byte, up to the first that needs one.
+/// Returns whether the text stands between quotes as it is, because none of its bytes needs an
+/// escape (RFC 8259, "Strings"). It looks at each byte, up to the first that needs one.
 #[inline(always)]
 pub fn is_plain(text: &str) -> bool
     ensures { TellsAsIs result text.now }

@@ -1,7 +1,7 @@
 use Rattle.std.proofs.Common.{◌≡◌, [], ◌∷◌, ◌+◌, length, map, drop, rules, arith, inl, inr, refl}
-use Rattle.std.proofs.Common.{ap, ap₂, sym, ◌∙◌, subst}
+use Rattle.std.proofs.Common.{ap, ap₂, sym, ◌∙◌, subst, option_map, Bor, List}
+use Rattle.registry_core.specs.declared.definition.Field.{Field}
 use Rattle.std.specs.Prelude.{slice_range}
-use Rattle.std.specs.Bool.{OnTrue}
 use Rattle.std.specs.Slice.Iter.{iter_rest}
 use Rattle.std.specs.Int.{w128}
 use Rattle.std.proofs.lemmas.Int.{to_z-of_z}
@@ -9,12 +9,13 @@ use Rattle.std.proofs.lemmas.List.{length-map}
 use Rattle.std.proofs.lemmas.Result.{on_ok_weaker}
 use Rattle.json.specs.Token.{key}
 use Rattle.json.specs.Tree.{json_tokens, items_tokens, members_tokens}
-use Rattle.serde_json.specs.Data.{object, member, no_members}
+use Rattle.serde_json.specs.Data.{no_members}
 use Rattle.serde_json.specs.Written.{outline, items_outline, members_outline}
 use Rattle.serde_json.specs.View.{items_of}
 use Rattle.graph_core.specs.Types.{shape}
 use Rattle.node_core.specs.Shown.{children_of}
 use Rattle.json_core.specs.Json.{json_seen, fields_json}
+use Rattle.token_core.specs.Plain.{OnPlain}
 use Rattle.token_core.specs.Tokens.{prints}
 use Rattle.json_core.specs.Tokens.{data_at, members_at, members_in_order}
 use Rattle.json_core.proofs.Children.{children_below, jsons}
@@ -23,9 +24,9 @@ use Rattle.json_core.proofs.Known.{grows_not, grows_again}
 use Rattle.json_core.proofs.PlainNames.{AllPlain, plain_names, plain_rest, plain_first, plain_at}
 use Rattle.json_core.proofs.Ordered.{are_named, positions_are_named, positions_count}
 use Rattle.json_core.proofs.Ordered.{unnamed_json_is, in_order_json_is, sorted_json_is}
-use Rattle.json_core.proofs.Reported.{reported, long_here, long_compact_here, text_is, bytes_are}
-use Rattle.json_core.proofs.Reported.{fields_at_node, no_fields_at_node, fields_are, no_fields_json}
-use Rattle.json_core.proofs.Reported.{arm_there, arm_at_node, arm_is, arm_place, composite_place}
+use Rattle.json_core.proofs.Reported.{reported, text_is, bytes_are, found_is, fields_are}
+use Rattle.json_core.proofs.Reported.{no_fields_json, arm_there, arm_is, arm_fields_in}
+use Rattle.json_core.proofs.Reported.{composite_fields_in}
 use Rattle.json_core.proofs.Turns.{name_is, in_order_turn, item_turn, array_whole, turn_at}
 use Rattle.json_core.proofs.Turns.{named_after, name_read, sorted_turn, object_whole}
 use Rattle.json_core.proofs.Turns.{member_whole, array_member_whole}
@@ -55,7 +56,7 @@ write_in_order-members-init t c =
       named = rw (gives, first, c.iter.ensures.rest)
           (are_named c.args.fields.now _ c.requires.keys);
       plain = rw (gives, first, c.iter.ensures.rest)
-          (plain_names c.args.plain c.args.fields.now c.requires.plain);
+          (plain_names c.args.escapes c.args.fields.now c.requires.escapes);
       reported = rw (gives, first, second, c.iter.ensures.rest, c.children.ensures) refl;
       below = rw (gives, second, c.children.ensures, c.requires.types)
           (children_below c.args.node.now);
@@ -166,72 +167,68 @@ write_fields-returns-in-Unnamed-clause-adds t c =
 pub write_arm-returns-in_ok-write_each-in-Unnamed-clause-adds :
     goal.write_arm-returns-in_ok-write_each-in-Unnamed-clause-adds
 write_arm-returns-in_ok-write_each-in-Unnamed-clause-adds t c =
+    let fs = c.as_slice-fields.result.now in
     let ds = jsons (children_of c.args.node.now) in
     let keys = c.in_ok-keys.ensures.keys.0 in
-    rw (unnamed_json_is c.args.fields.now ds (rw c.in-Unnamed.is at keys))
-    (on_ok_weaker c.end_array_member.result (λ e. array_member_whole c.args.out.now
+    rw (
+      ← c.as_str-name.ensures.same,
+      ← c.as_slice-fields.ensures,
+      unnamed_json_is fs ds (rw c.in-Unnamed.is at keys),
+    ) (on_ok_weaker c.end_array_member.result (λ e. array_member_whole c.args.out.now
     c.begin_array_member.new.self c.write_each.new.out c.end_array_member.new.self
-    c.args.name.now ds c.in_ok-begin_array_member-in-Unnamed.ensures
+    c.as_str-name.result.now ds c.in_ok-begin_array_member-in-Unnamed.ensures
     c.in_ok-write_each-in-Unnamed.ensures.adds e)
     c.end_array_member.ensures)
 
 pub write_arm-returns-in_ok-write_in_order-in-InOrder-clause-adds :
     goal.write_arm-returns-in_ok-write_in_order-in-InOrder-clause-adds
 write_arm-returns-in_ok-write_in_order-in-InOrder-clause-adds t c =
-    on_ok_weaker c.end_object.result (λ e. member_whole c.args.out.now c.begin_member.new.self
-    c.write_in_order.new.out c.end_object.new.self c.args.name.now
-    (fields_json c.args.fields.now (jsons (children_of c.args.node.now)))
+    rw (← c.as_str-name.ensures.same, ← c.as_slice-fields.ensures)
+    (on_ok_weaker c.end_object.result (λ e. member_whole c.args.out.now c.begin_member.new.self
+    c.write_in_order.new.out c.end_object.new.self c.as_str-name.result.now
+    (fields_json c.as_slice-fields.result.now (jsons (children_of c.args.node.now)))
     c.in_ok-begin_member-in-InOrder.ensures c.in_ok-write_in_order-in-InOrder.ensures.adds e)
-    c.end_object.ensures
+    c.end_object.ensures)
 
 pub write_arm-returns-in_ok-write_sorted-in-Sorted-clause-adds :
     goal.write_arm-returns-in_ok-write_sorted-in-Sorted-clause-adds
 write_arm-returns-in_ok-write_sorted-in-Sorted-clause-adds t c =
-    on_ok_weaker c.end_object-in-Sorted.result (λ e. member_whole c.args.out.now
+    rw (← c.as_str-name.ensures.same, ← c.as_slice-fields.ensures)
+    (on_ok_weaker c.end_object-in-Sorted.result (λ e. member_whole c.args.out.now
     c.begin_member-in-Sorted.new.self c.write_sorted.new.out c.end_object-in-Sorted.new.self
-    c.args.name.now (fields_json c.args.fields.now (jsons (children_of c.args.node.now)))
+    c.as_str-name.result.now
+    (fields_json c.as_slice-fields.result.now (jsons (children_of c.args.node.now)))
     c.in_ok-begin_member-in-Sorted.ensures c.in_ok-write_sorted-in-Sorted.ensures.adds e)
-    c.end_object-in-Sorted.ensures
+    c.end_object-in-Sorted.ensures)
 
 pub write_node-write_unsigned-requires : goal.write_node-write_unsigned-requires
 write_node-write_unsigned-requires t c =
     λ e. (reported c.args.node.now _ c.in-Unsigned.ensures.value c.in-Unsigned.ensures.same).0
-    (sym (long_here c.args.node.now _ _ _ (
-      c.checked-checked.ensures ∙ c.requires,
-      c.type_id-ty.ensures.same,
-    ) c.is_long.ensures) ∙ e)
+    (sym c.integer_json.ensures ∙ e)
 
 pub write_node-write_signed-requires : goal.write_node-write_signed-requires
 write_node-write_signed-requires t c =
     λ e. rw (to_z-of_z w128 c.in-Signed.n (search rules))
     ((reported c.args.node.now _ c.in-Signed.ensures.value c.in-Signed.ensures.same).0
-    (sym (long_here c.args.node.now _ _ _ (
-      c.checked-checked.ensures ∙ c.requires,
-      c.type_id-ty.ensures.same,
-    ) c.is_long-in-Signed.ensures) ∙ e))
+    (sym c.integer_json-in-Signed.ensures ∙ e))
 
 pub write_node-write_unsigned-requires-in-Compact :
     goal.write_node-write_unsigned-requires-in-Compact
 write_node-write_unsigned-requires-in-Compact t c =
     λ e. (reported c.args.node.now _ c.in-Compact.ensures.value c.in-Compact.ensures.same).0
-    (sym (long_compact_here c.args.node.now _ _ _ (
-      c.checked-checked.ensures ∙ c.requires,
-      c.type_id-ty.ensures.same,
-    ) c.is_long_compact.ensures) ∙ e)
+    (sym c.compact_json.ensures ∙ e)
 
 pub write_node-write_fields-requires : goal.write_node-write_fields-requires
 write_node-write_fields-requires t c =
     let s = c.args.node.now in
     let fs = c.in-Some.fields.now in
-    let at = fields_at_node s _ _ c.composite_fields.result c.in-Some.fields
-    (c.checked-checked.ensures ∙ c.requires, c.type_id-ty.ensures.same)
-    c.composite_fields.ensures.same c.in-Some.is in
+    let at = found_is c.composite_fields.ensures.same c.in-Some.is in
     let few = c.composite_fields.ensures.few in (
       omega arith,
       (
         c.requires,
         (
-          rw (c.requires, c.type_id-ty.ensures.same) (composite_place (shape s.types s.ty) 0 fs at),
+          rw (c.requires, c.type_id-ty.ensures.same) (composite_fields_in (shape s.types s.ty) 0 fs at),
           (
             rw c.in-Some.is at few,
             fields_count s fs c.in-Fields.ensures.value c.in-Fields.ensures.same at,
@@ -241,30 +238,24 @@ write_node-write_fields-requires t c =
     )
 
 pub write_node-unwrap-arm-requires : goal.write_node-unwrap-arm-requires
-write_node-unwrap-arm-requires t c = arm_there c.args.node.now _ _ _ c.defined_arm.result (
-  c.checked-checked.ensures ∙ c.requires,
-  c.type_id-ty.ensures.same,
-) c.defined_arm.ensures.same
-    (reported c.args.node.now _ c.in-Arm.ensures.value c.in-Arm.ensures.same)
+write_node-unwrap-arm-requires t c = arm_there c.args.node.now _ c.defined_arm.result
+    c.defined_arm.ensures.same (reported c.args.node.now _ c.in-Arm.ensures.value c.in-Arm.ensures.same)
 
 pub write_node-write_arm-requires : goal.write_node-write_arm-requires
 write_node-write_arm-requires t c =
     let s = c.args.node.now in
     let a = c.unwrap-arm.result.now in
-    let at = arm_at_node s _ _ _ c.defined_arm.result c.unwrap-arm.result
-    (c.checked-checked.ensures ∙ c.requires, c.type_id-ty.ensures.same)
-    c.defined_arm.ensures.same c.unwrap-arm.ensures in
+    let at = found_is c.defined_arm.ensures.same c.unwrap-arm.ensures in
     let few = c.defined_arm.ensures.few in (
       omega arith,
       (
         c.requires,
         (
-          rw (c.requires, c.type_id-ty.ensures.same, c.as_slice-fields.ensures)
-              (arm_place (shape s.types s.ty) c.in-Arm.arm a at),
+          rw (c.requires, c.type_id-ty.ensures.same)
+              (arm_fields_in (shape s.types s.ty) c.in-Arm.arm a at),
           (
-            rw c.as_slice-fields.ensures (rw c.unwrap-arm.ensures at few),
-            rw c.as_slice-fields.ensures (arm_count s c.in-Arm.arm a c.in-Arm.ensures.value
-                c.in-Arm.ensures.same at),
+            rw c.unwrap-arm.ensures at few,
+            arm_count s c.in-Arm.arm a c.in-Arm.ensures.value c.in-Arm.ensures.same at,
           ),
         ),
       ),
@@ -301,21 +292,13 @@ write_node-returns-in-Bytes-clause-adds t c =
 pub write_node-returns-in-Unsigned-clause-adds : goal.write_node-returns-in-Unsigned-clause-adds
 write_node-returns-in-Unsigned-clause-adds t c = rw (
   (reported c.args.node.now _ c.in-Unsigned.ensures.value c.in-Unsigned.ensures.same).1,
-  ←
-      long_here c.args.node.now _ _ _ (
-        c.checked-checked.ensures ∙ c.requires,
-        c.type_id-ty.ensures.same,
-      ) c.is_long.ensures,
+  ← c.integer_json.ensures,
 ) c.write_unsigned.ensures
 
 pub write_node-returns-in-Signed-clause-adds : goal.write_node-returns-in-Signed-clause-adds
 write_node-returns-in-Signed-clause-adds t c = rw (
   (reported c.args.node.now _ c.in-Signed.ensures.value c.in-Signed.ensures.same).1,
-  ←
-      long_here c.args.node.now _ _ _ (
-        c.checked-checked.ensures ∙ c.requires,
-        c.type_id-ty.ensures.same,
-      ) c.is_long-in-Signed.ensures,
+  ← c.integer_json-in-Signed.ensures,
 ) (rw (to_z-of_z w128 c.in-Signed.n (search rules)) at c.write_signed.ensures)
 
 pub write_node-returns-in-Wide-clause-adds : goal.write_node-returns-in-Wide-clause-adds
@@ -326,28 +309,21 @@ write_node-returns-in-Wide-clause-adds t c =
 pub write_node-returns-in-Compact-clause-adds : goal.write_node-returns-in-Compact-clause-adds
 write_node-returns-in-Compact-clause-adds t c = rw (
   (reported c.args.node.now _ c.in-Compact.ensures.value c.in-Compact.ensures.same).1,
-  ←
-      long_compact_here c.args.node.now _ _ _ (
-        c.checked-checked.ensures ∙ c.requires,
-        c.type_id-ty.ensures.same,
-      ) c.is_long_compact.ensures,
+  ← c.compact_json.ensures,
 ) c.write_unsigned-in-Compact.ensures
 
 pub write_node-returns-in-Some-clause-adds : goal.write_node-returns-in-Some-clause-adds
 write_node-returns-in-Some-clause-adds t c =
     let s = c.args.node.now in
-    let at = fields_at_node s _ _ c.composite_fields.result c.in-Some.fields
-    (c.checked-checked.ensures ∙ c.requires, c.type_id-ty.ensures.same)
-    c.composite_fields.ensures.same c.in-Some.is in
+    let at = found_is c.composite_fields.ensures.same c.in-Some.is in
     rw (fields_are s c.in-Some.fields.now at
     (reported s _ c.in-Fields.ensures.value c.in-Fields.ensures.same)) c.write_fields.ensures.adds
 
 pub write_node-returns-in-None-clause-adds : goal.write_node-returns-in-None-clause-adds
 write_node-returns-in-None-clause-adds t c =
     let s = c.args.node.now in
-    let at = no_fields_at_node s _ _ c.composite_fields.result
-    (c.checked-checked.ensures ∙ c.requires, c.type_id-ty.ensures.same)
-    c.composite_fields.ensures.same c.in-None.is in
+    let at = sym c.composite_fields.ensures.same
+    ∙ ap (option_map (λ (x : Bor (List Field)). x.now)) c.in-None.is in
     rw (
       reported s _ c.in-Fields.ensures.value c.in-Fields.ensures.same,
       no_fields_json (shape s.types s.ty) (jsons (children_of s)) at,
@@ -356,16 +332,9 @@ write_node-returns-in-None-clause-adds t c =
 pub write_node-returns-in-Arm-clause-adds : goal.write_node-returns-in-Arm-clause-adds
 write_node-returns-in-Arm-clause-adds t c =
     let s = c.args.node.now in
-    let at = arm_at_node s _ _ _ c.defined_arm.result c.unwrap-arm.result
-    (c.checked-checked.ensures ∙ c.requires, c.type_id-ty.ensures.same)
-    c.defined_arm.ensures.same c.unwrap-arm.ensures in
-    let shows : json_seen s ≡ object (member c.as_str-name.result.now
-    (fields_json c.as_slice-fields.result.now (jsons (children_of s))) no_members) =
-    arm_is s c.in-Arm.arm c.unwrap-arm.result.now at
-    (reported s _ c.in-Arm.ensures.value c.in-Arm.ensures.same)
-    ∙ ap₂ (λ m gs. object (member m (fields_json gs (jsons (children_of s))) no_members))
-    (sym c.as_str-name.ensures.same) (sym c.as_slice-fields.ensures) in
-    rw shows c.write_arm.ensures.adds
+    let at = found_is c.defined_arm.ensures.same c.unwrap-arm.ensures in
+    rw (arm_is s c.in-Arm.arm c.unwrap-arm.result.now at
+    (reported s _ c.in-Arm.ensures.value c.in-Arm.ensures.same)) c.write_arm.ensures.adds
 
 pub write_node-returns-in-List-clause-adds : goal.write_node-returns-in-List-clause-adds
 write_node-returns-in-List-clause-adds t c =
@@ -392,8 +361,8 @@ write_in_order-members-preserved t c =
       can = search rules;
       ends = search rules;
       named = search rules;
-      plain = plain_rest c.args.plain c.in-Some.field.now fs
-          (subst (λ gs. OnTrue c.args.plain (AllPlain gs)) field c.members.invariant.plain);
+      plain = plain_rest c.args.escapes c.in-Some.field.now fs
+          (subst (λ gs. OnPlain c.args.escapes (AllPlain gs)) field c.members.invariant.plain);
       reported = in_order_turn c.members.out c.write_node.new.out c.in-Some.field.now fs
           (json_seen c.in-Some.child) (map json_seen ss) n c.name_of.ensures said
           ∙ ap₂ (λ gs us. prints c.members.out
@@ -437,18 +406,18 @@ pub write_in_order-key-requires : goal.write_in_order-key-requires
 write_in_order-key-requires t c =
     let fs = iter_rest c.next.new.self.a in
     let field : iter_rest c.members.field-iterator.a ≡ c.in-Some.field.now ∷ fs = search rules in
-    plain_first c.args.plain c.in-Some.field.now fs c.name_of.result.now c.name_of.ensures
-    (subst (λ gs. OnTrue c.args.plain (AllPlain gs)) field c.members.invariant.plain)
+    plain_first c.args.escapes c.in-Some.field.now fs c.name_of.result.now c.name_of.ensures
+    (subst (λ gs. OnPlain c.args.escapes (AllPlain gs)) field c.members.invariant.plain)
 
 pub write_sorted-key-requires : goal.write_sorted-key-requires
 write_sorted-key-requires t c =
     let turn = turn_at c.args.fields.now c.args.orders.now c.members.orders c.args.start
     c.members.turn c.position-position.result c.members.invariant.grows c.requires.keys
     (omega arith) c.members.invariant.named c.position-position.ensures in
-    plain_at c.args.plain c.args.fields.now c.position-position.result c.name_of.result.now
+    plain_at c.args.escapes c.args.fields.now c.position-position.result c.name_of.result.now
     (name_is c.args.fields.now c.position-position.result c.index-fields-position.result
     c.name_of.result.now turn.field c.index-fields-position.is c.name_of.ensures) turn.within
-    c.requires.plain
+    c.requires.escapes
 
 pub write_child-write_node-requires : goal.write_child-write_node-requires
 write_child-write_node-requires t c =

@@ -1,6 +1,5 @@
 use Rattle.std.proofs.Common.{◌≡◌, ◌+◌, ◌*◌, length, map, drop}
 use Rattle.std.specs.Prelude.{slice_range}
-use Rattle.std.specs.Bool.{OnTrue}
 use Rattle.std.specs.List.{AllByRecursion}
 use Rattle.std.specs.Slice.Iter.{iter_rest}
 use Rattle.json.specs.Tree.{items_tokens, members_tokens}
@@ -10,6 +9,7 @@ use Rattle.grammar_core.specs.Tree.{nodes}
 use Rattle.node_core.specs.Shown.{children_of}
 use Rattle.json_core.specs.Json.{json_seen}
 use Rattle.json_core.specs.Ordered.{AreNamed, Grows}
+use Rattle.token_core.specs.Plain.{OnPlain}
 use Rattle.token_core.specs.Tokens.{prints}
 use Rattle.json_core.specs.Tokens.{members_at, members_in_order}
 use Rattle.json_core.proofs.Children.{AreBelow}
@@ -58,7 +58,7 @@ invariant-write_in_order-members l = record {
   can : (goal.iterator-write_in_order-members).can_next l.field-iterator;
   ends : (goal.iterator-write_in_order-members).is_finite l.field-iterator;
   named : AreNamed (iter_rest l.field-iterator.a);
-  plain : OnTrue l.plain (AllPlain (iter_rest l.field-iterator.a));
+  plain : OnPlain l.escapes (AllPlain (iter_rest l.field-iterator.a));
   reported : prints l.out (members_tokens (members_outline
       (members_in_order (iter_rest l.field-iterator.a) (map json_seen l.field-iterator.b))))
       ≡ prints l.initial.out (members_tokens (members_outline

@@ -1,10 +1,8 @@
-use Rattle.std.proofs.Common.{◌+◌, ◌*◌, ◌-◌, length, arith}
-use Rattle.std.proofs.lemmas.Slice.{drop-put_mid}
+use Rattle.std.proofs.Common.{◌+◌, ◌*◌, length, arith, rules}
+use Rattle.token_core.proofs.Placing.{part_placed}
 use Rattle.token_core.proofs.digits.place_each.Goals as goal
 
-pub returns-clause-rest : goal.returns-clause-rest
-returns-clause-rest c =
-    let end = c.args.at + 2 * length c.args.bytes.now in
-    drop-put_mid c.args.at (end - c.args.at) c.args.buffer.now c.encode_to_slice.new.output end
-    (omega arith) (omega (arith, c.requires))
-    (omega (arith, c.requires, c.encode_to_slice.auto.output))
+pub returns : goal.returns
+returns c = part_placed c.args.buffer.now c.encode_to_slice.new.output _ c.args.at
+    (c.args.at + 2 * length c.args.bytes.now) (omega arith) (omega (arith, c.requires))
+    (omega (arith, c.requires, c.encode_to_slice.auto.output)) (search rules)

@@ -5,25 +5,25 @@ use Rattle.std.proofs.lemmas.Simd.{take_more_put_chunk, length-put_chunk, put_ch
 use Rattle.std.proofs.lemmas.Slice.{drop-append-drop}
 use Rattle.token_core.proofs.digits.place_lanes.Goals as goal
 
-pub returns-clause-placed : goal.returns-clause-placed
-returns-clause-placed c = record {
-  bytes = take_more_put_chunk c.args.at c.args.buffer.now c.args.lanes _
-      (omega (arith, c.fits-lanes.0)) (omega (arith, c.requires));
-  moved = omega (arith, c.fits-lanes.0);
-  len = length-put_chunk c.args.at c.args.buffer.now c.args.lanes;
-}
-
-pub returns-clause-rest : goal.returns-clause-rest
-returns-clause-rest c =
+pub returns : goal.returns
+returns c =
     let at = c.args.at in
     let old = c.args.buffer.now in
     let lanes = c.args.lanes in
     let end = at + 16 in
     let long : length lanes ≡ 16 = c.fits-lanes.0 in
     let before = length-take-le at old (omega (arith, c.requires)) in
-    ap (drop end) (put_chunk_is at old lanes (omega (arith, c.requires, long)))
-    ∙ ap (λ l. drop end (take at old ++ (lanes ++ l)))
-    (ap (λ n. drop n (drop at old)) long ∙ drop-drop 16 at old)
-    ∙ ap (drop end) (sym (append_assoc (take at old) lanes (drop end old)))
-    ∙ drop-append-drop end old (take at old ++ lanes) end (omega arith)
-    (omega (arith, length-append (take at old) lanes, before, long))
+    record {
+      placed = record {
+        bytes = take_more_put_chunk at old lanes _ (omega (arith, long))
+            (omega (arith, c.requires));
+        moved = omega (arith, long);
+        len = length-put_chunk at old lanes;
+      };
+      rest = ap (drop end) (put_chunk_is at old lanes (omega (arith, c.requires, long)))
+          ∙ ap (λ l. drop end (take at old ++ (lanes ++ l)))
+          (ap (λ n. drop n (drop at old)) long ∙ drop-drop 16 at old)
+          ∙ ap (drop end) (sym (append_assoc (take at old) lanes (drop end old)))
+          ∙ drop-append-drop end old (take at old ++ lanes) end (omega arith)
+          (omega (arith, length-append (take at old) lanes, before, long));
+    }

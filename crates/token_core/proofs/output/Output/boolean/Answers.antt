@@ -11,5 +11,4 @@ returns c =
       | then-x w ↦ ap (λ s. s.now) w.put-is ∙ ap (λ b. token_text (boolean b)) (sym w.if-x.true)
       | else-x w ↦ ap (λ s. s.now) w.put-is ∙ ap (λ b. token_text (boolean b)) (sym w.if-x.false)
     ] in
-    begun c.put-2.result c.args.self.now _ _ _ (boolean c.args.x)
-    (ap (λ w. w.after_value) c.put.view_is) says refl c.put-2.ensures
+    begun c.put.result c.args.self.now _ _ (boolean c.args.x) says refl c.put.ensures

@@ -19,6 +19,5 @@ returns c =
     let old = c.self.inside in
     let w : Text = record { text = take old.len old.bytes.items; after_value = old.after_value } in
     c.self-2.view_is ∙ c.in_ok-put.ensures
-    ∙ written w _ c.put.inside.after_value c.as_str.result.now t
-    (ap (λ v. v.after_value) c.put.view_is) says refl refl
+    ∙ written w _ w.after_value c.as_str.result.now t refl says refl refl
     ∙ ap (λ v. prints v (t ∷ [])) c.self.view_is

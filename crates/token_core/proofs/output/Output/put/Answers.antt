@@ -1,25 +1,8 @@
-use Rattle.std.proofs.Common.{◌≡◌, ◌++◌, length, take, drop, IsUtf8, ap, ◌∙◌, arith, take_at}
-use Rattle.std.proofs.lemmas.Str.{IsUtf8-append}
-use Rattle.json.proofs.Printed.Places.{Placed-then}
-use Rattle.token_core.proofs.Outputs.{placed_utf8, comma_utf8}
+use Rattle.token_core.proofs.Outputs.{utf8_after}
 use Rattle.token_core.proofs.output.Output.put.Goals as goal
 
 pub invariant_of-self-2 : goal.invariant_of-self-2
-invariant_of-self-2 c =
-    let old = c.as_mut_slice-buffer.result.now in
-    let new = c.place_bytes-self-inside.new.buffer in
-    let items = c.make_room.new.bytes in
-    let both = Placed-then c.place_comma-at.ensures c.place_bytes-self-inside.ensures.placed in
-    let full : take items.len (new ++ drop (length new) items.items) ≡ new =
-    take_at new _ items.len (both.len ∙ c.as_mut_slice-buffer.ensures.len) in
-    let before : IsUtf8 (take c.self.inside.len old) =
-    rw (c.as_mut_slice-buffer.ensures.value, c.in_ok-make_room.ensures.same)
-    c.self.invariant.1 in
-    rw full (placed_utf8 old new _ c.self.inside.len c.place_bytes-self-inside.result both
-    (omega (
-      arith,
-      c.self.invariant.0,
-      c.in_ok-make_room.ensures.kept,
-      ap length c.as_mut_slice-buffer.ensures.value,
-    )) before
-    (IsUtf8-append _ _ (comma_utf8 c.args.comma) c.as_bytes.ensures.utf8))
+invariant_of-self-2 c = utf8_after c.self.inside.bytes.items _
+    c.in_ok-make_room.ensures.same c.as_mut_slice-buffer.ensures.value c.as_mut_slice-buffer.ensures.len c.place_comma-at.ensures
+    c.place_bytes-self-inside.ensures.placed c.self.invariant c.in_ok-make_room.ensures.kept
+    c.as_bytes.ensures.utf8

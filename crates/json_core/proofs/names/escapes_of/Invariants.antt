@@ -1,7 +1,7 @@
 use Rattle.std.proofs.Common.{◌≡◌, ℕ, ◌<◌}
 use Rattle.json.specs.Print.{escape}
 use Rattle.json_core.specs.Tokens.{name_at}
-use Rattle.json_core.proofs.names.are_plain.Given as goal
+use Rattle.json_core.proofs.names.escapes_of.Given as goal
 
 abbrev pub invariant-fields : goal.invariant-fields
 invariant-fields l = (i : ℕ) → i < l.field-index →
