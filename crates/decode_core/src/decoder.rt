@@ -23,7 +23,7 @@ use registry_core::TypeId;
 use std::alloc::Allocator;
 use std::marker::Model;
 use std::mem;
-use value_core::{Builder, Limits, Value};
+use value_core::{Limits, RawBuilder, Value};
 use widths_core::Checked;
 
 /// The greatest limit of bytes, 2^40.
@@ -173,7 +173,7 @@ impl<'r, A: Allocator + Clone> Decoder<'r, A> {
             root,
             limits,
             taken: 0,
-            run: Ok(Partial::new(Builder::begin(alloc, checked, root, limits.depth)?)),
+            run: Ok(Partial::new(RawBuilder::begin(alloc, checked, root, limits.depth)?)),
             turns: Count::new(),
             closings: Count::new(),
             calls: Count::new(),

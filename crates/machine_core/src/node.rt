@@ -10,7 +10,7 @@ use crate::reason::DecodeReason;
 use form_core::{PlainForm, read_length, read_plain};
 use scale_core::Fault;
 use std::alloc::{AllocError, Allocator};
-use value_core::{Builder, Form, Leaf, Next};
+use value_core::{Form, Leaf, Next, RawBuilder};
 
 /// Why a node is not added.
 #[derive(Clone, Copy, Debug, PartialEq, Eq)]
@@ -48,7 +48,7 @@ impl From<AllocError> for NodeFault {
 /// Adds the next node, which has no parts, by its bytes.
 #[inline(always)]
 pub(crate) fn add_plain<A: Allocator>(
-    builder: &mut Builder<'_, A>,
+    builder: &mut RawBuilder<'_, A>,
     form: PlainForm,
     own: &[u8],
 ) -> Result<(), NodeFault>
@@ -65,7 +65,7 @@ pub(crate) fn add_plain<A: Allocator>(
 /// Adds the arm that is next, by its index.
 #[inline(always)]
 pub(crate) fn add_arm<A: Allocator>(
-    builder: &mut Builder<'_, A>,
+    builder: &mut RawBuilder<'_, A>,
     own: &[u8],
 ) -> Result<(), NodeFault>
     requires next { next_of builder.old.walk ≡ Next.Wants Form.Arm }
@@ -81,7 +81,7 @@ pub(crate) fn add_arm<A: Allocator>(
 
 /// Adds the sequence that is next, by the bytes of its length.
 pub(crate) fn add_sequence<A: Allocator>(
-    builder: &mut Builder<'_, A>,
+    builder: &mut RawBuilder<'_, A>,
     own: &[u8],
 ) -> Result<(), NodeFault>
     requires next { next_of builder.old.walk ≡ Next.Wants Form.Sequence }
@@ -97,7 +97,7 @@ pub(crate) fn add_sequence<A: Allocator>(
 /// Adds the next node, which has no bytes of its own.
 #[inline(always)]
 pub(crate) fn add_bare<A: Allocator>(
-    builder: &mut Builder<'_, A>,
+    builder: &mut RawBuilder<'_, A>,
     form: Form,
 ) -> Result<(), AllocError>
     requires bare { IsBare form }

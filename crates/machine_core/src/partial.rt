@@ -22,13 +22,13 @@ use form_core::{BytesForm, Carry, bytes_form, need, read_length};
 use scale_core::compact_len;
 use std::alloc::Allocator;
 use std::marker::Model;
-use value_core::{Builder, Form, Next, RunKind, Value};
+use value_core::{Form, Next, RawBuilder, RunKind, Value};
 
 /// A value in progress: what is built of it, and the bytes that do not complete the next node. The
 /// bytes of an open run are in the builder.
 #[derive(Drop)]
 pub struct Partial<'r, A: Allocator> {
-    pub(crate) builder: Builder<'r, A>,
+    pub(crate) builder: RawBuilder<'r, A>,
     pub(crate) carry: Carry,
 }
 
@@ -44,7 +44,7 @@ impl<'r, A: Allocator> Model for Partial<'r, A> {
 
 /// Opens the text or the run of bytes that is next by the bytes of its length.
 fn take_length<A: Allocator>(
-    builder: &mut Builder<'_, A>,
+    builder: &mut RawBuilder<'_, A>,
     kind: RunKind,
     own: &[u8],
 ) -> Result<(), NodeFault>
@@ -62,7 +62,7 @@ fn take_length<A: Allocator>(
 /// Adds the next node by its own bytes, or opens the run that is next by those of its length.
 #[inline(always)]
 pub(crate) fn take_node<A: Allocator>(
-    builder: &mut Builder<'_, A>,
+    builder: &mut RawBuilder<'_, A>,
     form: BytesForm,
     own: &[u8],
 ) -> Result<(), NodeFault>
@@ -104,7 +104,7 @@ fn node_turn(
 
 impl<'r, A: Allocator> Partial<'r, A> {
     /// Creates a value in progress from a builder without nodes.
-    pub fn new(builder: Builder<'r, A>) -> Partial<'r, A>
+    pub fn new(builder: RawBuilder<'r, A>) -> Partial<'r, A>
         requires fresh { IsFresh builder }
         ensures { result ≡ record { built = builder.entry; carry = [] } }
     {
@@ -123,7 +123,7 @@ impl<'r, A: Allocator> Partial<'r, A> {
     }
 
     /// Returns the builder, which holds what is built of the value.
-    pub fn builder(&self) -> &Builder<'r, A>
+    pub fn builder(&self) -> &RawBuilder<'r, A>
         ensures { result.now ≡ self.now.built }
     {
         &self.builder
