@@ -137,8 +137,9 @@ module _ {R : FieldsOf → FieldsOf → Ordering} (exact : CmpEqualImpliesEq R) 
     go Greater is later = (h.0, later)
 
   -- what a look-up finds is known
-  pub known_looked_up : (r : List TypeInfo) (ps : List ℕ) (es : List (FieldsOf × Known)) (p : FieldsOf)
-      (found : Option Known) → AreKnownOrders r ps es → found ≡ lookup (is_at (R p)) es →
+  pub known_looked_up : (r : List TypeInfo) (ps : List ℕ) (es : List (FieldsOf × Known))
+      (p : FieldsOf) (found : Option Known) → AreKnownOrders r ps es →
+      found ≡ lookup (is_at (R p)) es →
       IfSome found (AreKeysOf ps (fields_at r p))
   known_looked_up r ps es p None h e = tt
   known_looked_up r ps es p (Some k) h e = known_found r ps es p k h (sym e)

@@ -22,7 +22,8 @@ all_plain (f ∷ fs) h =
     (h 0 (omega arith), all_plain fs (λ i l. h (suc i) (omega (arith, l))))
 
 -- the same where it may be unknown
-pub plain_names : (e' : Escapes) (fs : List Field) → OnPlain e' (ArePlain fs) → OnPlain e' (AllPlain fs)
+pub plain_names : (e' : Escapes) (fs : List Field) → OnPlain e' (ArePlain fs) →
+    OnPlain e' (AllPlain fs)
 plain_names escapes.None fs h = all_plain fs h
 plain_names escapes.Unknown fs h = tt
 

@@ -185,7 +185,8 @@ JsonReported r t v (what.Unsigned n) = (integer_json (shape r t) ≡ shown.Numbe
 JsonReported r t v (what.Signed z) = (integer_json (shape r t) ≡ shown.Number → FitsSigned w64 z)
     × (json_of r t v ≡ signed_by (integer_json (shape r t)) z)
 JsonReported r t v (what.Wide s) = json_of r t v ≡ wide_json s
-JsonReported r t v (what.Compact n) = (compact_json (compact_target_of r t) ≡ shown.Number → n < 2 ^ 64)
+JsonReported r t v (what.Compact n) =
+    (compact_json (compact_target_of r t) ≡ shown.Number → n < 2 ^ 64)
     × (json_of r t v ≡ unsigned_by (compact_json (compact_target_of r t)) n)
 JsonReported r t v what.Fields = json_of r t v ≡ parts_json (shape r t) (jsons (children_by r t v))
 JsonReported r t v (what.Arm q) = (a : Arm) × (defined_arm (shape r t) q ≡ Some a)

@@ -29,9 +29,9 @@ pub enum PrintFault {
 /// no line end.
 ///
 /// The text's capacity is at most twice its length, and above a mebibyte at most a quarter more.
-/// Besides, it allocates for the order of keys of each composite and arm that it meets (four bytes a
-/// field and an entry), 40 bytes for each child of an open object with more than eight fields whose
-/// names are out of order, and as much as the longest text with an escape.
+/// Besides, it allocates for the order of keys of each composite and arm that it meets (four bytes
+/// a field and an entry), 40 bytes for each child of an open object with more than eight fields
+/// whose names are out of order, and as much as the longest text with an escape.
 ///
 /// It takes time in proportion to the text, a look-up for each composite and arm of two fields or
 /// more, and the time to sort the names of each type that it meets. The calls nest as deep as the
@@ -49,7 +49,8 @@ pub fn json_text<A: Allocator>(alloc: Global, value: &Value<'_, A>) -> Result<St
     Ok(out.into_text())
 }
 
-/// Writes a value's JSON to a sink: the text of [`json_text`], made complete before the first write.
+/// Writes a value's JSON to a sink: the text of [`json_text`], made complete before the first
+/// write.
 ///
 /// # Errors
 ///
@@ -57,8 +58,8 @@ pub fn json_text<A: Allocator>(alloc: Global, value: &Value<'_, A>) -> Result<St
 /// - `Write` with `Device` if the writer returns an error, also for an interrupted write;
 /// - `Write` with `WroteNothing` if the writer takes no byte of a part that is not empty.
 ///
-/// After a failed write the sink has failed for good, and the front of the text that is reported was
-/// written. Otherwise `failed()` is unchanged.
+/// After a failed write the sink has failed for good, and the front of the text that is reported
+/// was written. Otherwise `failed()` is unchanged.
 pub fn print<A: Allocator, W: WriteOnce>(
     alloc: Global,
     value: &Value<'_, A>,

@@ -268,7 +268,8 @@ fn write_arm(
     requires few { length arm.now.fields < 2 ^ 32 }
     requires count { length arm.now.fields ≡ length (children_of node.now) }
     ensures adds { AddsValue result out.old out.new (object (member arm.now.name
-        (fields_json arm.now.fields (items_of (map json_seen (children_of node.now)))) no_members)) }
+        (fields_json arm.now.fields (items_of (map json_seen (children_of node.now))))
+        no_members)) }
     ensures grows { Grows orders.old orders.new }
 {
     let (name, fields) = (arm.name.as_str(), arm.fields.as_slice());

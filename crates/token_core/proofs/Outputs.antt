@@ -218,45 +218,46 @@ comma_utf8 false = IsUtf8-nil
 
 module _ (items : List ℕ) (comma : Bool) {grown old mid new xs : List ℕ} {len at end n : ℕ}
     (same : take len grown ≡ take len items) (value : old ≡ grown) (long : length old ≡ n)
-    (first : Placed old mid len (cond comma (44 ∷ []) []) at) (second : Placed mid new at xs end) where
-  -- the bytes are those that were written into
-  whole : take n (new ++ drop (length new) grown) ≡ new
-  whole = take_at new _ n (second.len ∙ first.len ∙ long)
+    (first : Placed old mid len (cond comma (44 ∷ []) []) at) (second : Placed mid new at xs end)
+  where
+    -- the bytes are those that were written into
+    whole : take n (new ++ drop (length new) grown) ≡ new
+    whole = take_at new _ n (second.len ∙ first.len ∙ long)
 
-  -- the text goes on with what was placed
-  text_after : take end (take n (new ++ drop (length new) grown))
-      ≡ take len items ++ (cond comma (44 ∷ []) [] ++ xs)
-  text_after = ap (take end) whole ∙ (Placed-then first second).bytes
-      ∙ ap (λ l. l ++ (cond comma (44 ∷ []) [] ++ xs)) (ap (take len) value ∙ same)
+    -- the text goes on with what was placed
+    text_after : take end (take n (new ++ drop (length new) grown))
+        ≡ take len items ++ (cond comma (44 ∷ []) [] ++ xs)
+    text_after = ap (take end) whole ∙ (Placed-then first second).bytes
+        ∙ ap (λ l. l ++ (cond comma (44 ∷ []) [] ++ xs)) (ap (take len) value ∙ same)
 
-  -- it is UTF-8 again, and lies within the bytes
-  pub utf8_after : (len ≤ length items) × IsUtf8 (take len items) → length items ≤ length grown →
-      IsUtf8 xs → (end ≤ length (take n (new ++ drop (length new) grown)))
-      × IsUtf8 (take end (take n (new ++ drop (length new) grown)))
-  utf8_after before kept utf8 =
-      let ys = cond {A = List ℕ} comma (44 ∷ []) [] ++ xs in
-      let both = Placed-then first second in (
-        omega (
-          arith,
-          ap length whole,
-          both.moved,
-          both.len,
-          ap length both.bytes,
-          length-append (take len old) ys,
-          length-take-le len old (omega (arith, before.0, kept, ap length value)),
-          ap length (take-append-drop end new),
-          length-append (take end new) (drop end new),
-        ),
-        subst IsUtf8 (sym text_after) (IsUtf8-append (take len items) ys before.1
-            (IsUtf8-append _ xs (comma_utf8 comma) utf8)),
-      )
+    -- it is UTF-8 again, and lies within the bytes
+    pub utf8_after : (len ≤ length items) × IsUtf8 (take len items) → length items ≤ length grown →
+        IsUtf8 xs → (end ≤ length (take n (new ++ drop (length new) grown)))
+        × IsUtf8 (take end (take n (new ++ drop (length new) grown)))
+    utf8_after before kept utf8 =
+        let ys = cond {A = List ℕ} comma (44 ∷ []) [] ++ xs in
+        let both = Placed-then first second in (
+          omega (
+            arith,
+            ap length whole,
+            both.moved,
+            both.len,
+            ap length both.bytes,
+            length-append (take len old) ys,
+            length-take-le len old (omega (arith, before.0, kept, ap length value)),
+            ap length (take-append-drop end new),
+            length-append (take end new) (drop end new),
+          ),
+          subst IsUtf8 (sym text_after) (IsUtf8-append (take len items) ys before.1
+              (IsUtf8-append _ xs (comma_utf8 comma) utf8)),
+        )
 
-  -- where xs are those of a token that begins a value or a member, the token was added
-  pub token_after : (w : Text) (t : Token) →
-      record { text = take len items; after_value = comma } ≡ w → xs ≡ token_text t →
-      begins t ≡ true → record {
-        text = take end (take n (new ++ drop (length new) grown));
-        after_value = ends t;
-      } ≡ prints w (t ∷ [])
-  token_after w t view says is = written w _ comma xs t (ap (λ v. v.after_value) view) says is
-      (text_after ∙ ap (λ v. v.text ++ (cond comma (44 ∷ []) [] ++ xs)) view)
+    -- where xs are those of a token that begins a value or a member, the token was added
+    pub token_after : (w : Text) (t : Token) →
+        record { text = take len items; after_value = comma } ≡ w → xs ≡ token_text t →
+        begins t ≡ true → record {
+          text = take end (take n (new ++ drop (length new) grown));
+          after_value = ends t;
+        } ≡ prints w (t ∷ [])
+    token_after w t view says is = written w _ comma xs t (ap (λ v. v.after_value) view) says is
+        (text_after ∙ ap (λ v. v.text ++ (cond comma (44 ∷ []) [] ++ xs)) view)

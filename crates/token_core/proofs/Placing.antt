@@ -1,5 +1,6 @@
 -- Bytes that were written into a buffer from a place on.
-use Rattle.std.proofs.Common.{◌≡◌, ℕ, ◌+◌, ◌<◌, ◌≤◌, List, [], ◌∷◌, ◌++◌, length, take, drop, refl, ◌-◌}
+use Rattle.std.proofs.Common.{◌≡◌, ℕ, ◌+◌, ◌<◌, ◌≤◌, List, [], ◌∷◌, ◌++◌, length, take, drop, refl}
+use Rattle.std.proofs.Common.{◌-◌}
 use Rattle.std.proofs.Common.{ap, ap₂, ◌∙◌, append_assoc, drop-cons, slice_index_or, slice_set}
 use Rattle.std.proofs.Common.{subst, arith, length-append, length-take-le, length-drop, take-add}
 use Rattle.std.proofs.Common.{take_at, take-append-drop, sym}

@@ -181,7 +181,8 @@ impl Output {
     }
 
     /// Appends characters that need no escape. `opening` is the first quote, after the brace of a
-    /// first key. `closing` is the second quote, then a key's colon, and the `[` of an array after it.
+    /// first key. `closing` is the second quote, then a key's colon, and the `[` of an array after
+    /// it.
     #[inline(always)]
     fn put_plain(
         &mut self,

@@ -228,7 +228,8 @@ write_node-write_fields-requires t c =
       (
         c.requires,
         (
-          rw (c.requires, c.type_id-ty.ensures.same) (composite_fields_in (shape s.types s.ty) 0 fs at),
+          rw (c.requires, c.type_id-ty.ensures.same) (composite_fields_in (shape s.types s.ty) 0 fs
+              at),
           (
             rw c.in-Some.is at few,
             fields_count s fs c.in-Fields.ensures.value c.in-Fields.ensures.same at,
@@ -239,7 +240,8 @@ write_node-write_fields-requires t c =
 
 pub write_node-unwrap-arm-requires : goal.write_node-unwrap-arm-requires
 write_node-unwrap-arm-requires t c = arm_there c.args.node.now _ c.defined_arm.result
-    c.defined_arm.ensures.same (reported c.args.node.now _ c.in-Arm.ensures.value c.in-Arm.ensures.same)
+    c.defined_arm.ensures.same (reported c.args.node.now _ c.in-Arm.ensures.value
+    c.in-Arm.ensures.same)
 
 pub write_node-write_arm-requires : goal.write_node-write_arm-requires
 write_node-write_arm-requires t c =

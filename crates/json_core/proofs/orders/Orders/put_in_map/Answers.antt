@@ -10,7 +10,8 @@ invariant_of-self-2 c =
     let is = subst
     (λ (o : OrdersView). AreKeysOf o.positions (fields_at o.types c.args.of) c.args.known)
     (sym c.self.view_is) c.requires in (
-      subst (AreKnownOrders r ps) (sym c.in_ok-insert.ensures.entries) (known_insert exact_fields_of r ps
+      subst (AreKnownOrders r ps) (sym c.in_ok-insert.ensures.entries) (known_insert exact_fields_of
+          r ps
           c.self.inside.others.entries c.args.of c.args.known c.self.invariant.0 is),
       c.self.invariant.1,
     )

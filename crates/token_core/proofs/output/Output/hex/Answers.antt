@@ -21,12 +21,14 @@ place_hex_text-self-inside-requires c =
 
 pub invariant_of-self-2 : goal.invariant_of-self-2
 invariant_of-self-2 c = utf8_after c.self.inside.bytes.items c.self.inside.after_value
-    c.in_ok-make_room.ensures.same c.as_mut_slice-buffer.ensures.value c.as_mut_slice-buffer.ensures.len c.place_comma-at.ensures
+    c.in_ok-make_room.ensures.same c.as_mut_slice-buffer.ensures.value
+    c.as_mut_slice-buffer.ensures.len c.place_comma-at.ensures
     c.place_hex_text-self-inside.ensures.placed c.self.invariant c.in_ok-make_room.ensures.kept
     (hex_utf8 c.args.bytes.now c.type_inv.bytes)
 
 pub returns : goal.returns
 returns c = token_after c.self.inside.bytes.items c.self.inside.after_value
-    c.in_ok-make_room.ensures.same c.as_mut_slice-buffer.ensures.value c.as_mut_slice-buffer.ensures.len c.place_comma-at.ensures
+    c.in_ok-make_room.ensures.same c.as_mut_slice-buffer.ensures.value
+    c.as_mut_slice-buffer.ensures.len c.place_comma-at.ensures
     c.place_hex_text-self-inside.ensures.placed c.args.self.now
     (string (48 ∷ 120 ∷ encode_lower c.args.bytes.now)) c.self.view_is refl refl

@@ -4,7 +4,8 @@ use Rattle.token_core.proofs.output.Output.put_plain.Goals as goal
 
 pub invariant_of-self-2 : goal.invariant_of-self-2
 invariant_of-self-2 c = utf8_after c.self.inside.bytes.items _
-    c.in_ok-make_room.ensures.same c.as_mut_slice-buffer.ensures.value c.as_mut_slice-buffer.ensures.len c.place_comma-at.ensures
+    c.in_ok-make_room.ensures.same c.as_mut_slice-buffer.ensures.value
+    c.as_mut_slice-buffer.ensures.len c.place_comma-at.ensures
     c.place_between-self-inside.ensures.placed c.self.invariant c.in_ok-make_room.ensures.kept
     (IsUtf8-append _ _ c.as_bytes-opening.ensures.utf8
     (IsUtf8-append _ _ c.as_bytes.ensures.utf8 c.as_bytes-closing.ensures.utf8))

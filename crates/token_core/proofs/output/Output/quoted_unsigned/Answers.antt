@@ -31,14 +31,18 @@ invariant_of-self-2 c =
     let quote = IsUtf8-are_ascii (34 ∷ []) refl in
     let digits = IsUtf8-from_ascii _ (IsAscii-decimal_wide c.args.n (search rules)) in
     utf8_after c.self.inside.bytes.items c.self.inside.after_value
-    c.in_ok-make_room.ensures.same c.as_mut_slice-buffer.ensures.value c.as_mut_slice-buffer.ensures.len c.place_comma-at.ensures (Placed-then c.place_byte-first.ensures
+    c.in_ok-make_room.ensures.same c.as_mut_slice-buffer.ensures.value
+    c.as_mut_slice-buffer.ensures.len c.place_comma-at.ensures (Placed-then
+    c.place_byte-first.ensures
     (Placed-then c.place_long-end.ensures c.place_byte-self-inside.ensures)) c.self.invariant
     c.in_ok-make_room.ensures.kept
     (IsUtf8-append _ _ quote (IsUtf8-append _ _ digits quote))
 
 pub returns : goal.returns
 returns c = token_after c.self.inside.bytes.items c.self.inside.after_value
-    c.in_ok-make_room.ensures.same c.as_mut_slice-buffer.ensures.value c.as_mut_slice-buffer.ensures.len c.place_comma-at.ensures (Placed-then c.place_byte-first.ensures
+    c.in_ok-make_room.ensures.same c.as_mut_slice-buffer.ensures.value
+    c.as_mut_slice-buffer.ensures.len c.place_comma-at.ensures (Placed-then
+    c.place_byte-first.ensures
     (Placed-then c.place_long-end.ensures c.place_byte-self-inside.ensures)) c.args.self.now
     (string (decimal c.args.n)) c.self.view_is
     (plain_string (decimal c.args.n) (escape_decimal c.args.n (search rules))) refl
