@@ -1,3 +1,4 @@
+-- The cycle of functions that writes a node and all that is below it, a section for each.
 use Rattle.std.proofs.Common.{◌≡◌, [], ◌∷◌, ◌+◌, length, map, drop, rules, arith, inl, inr, refl}
 use Rattle.std.proofs.Common.{ap, ap₂, sym, ◌∙◌, subst, option_map, Bor, List}
 use Rattle.registry_core.specs.declared.definition.Field.{Field}
@@ -33,6 +34,9 @@ use Rattle.json_core.proofs.Turns.{member_whole, array_member_whole}
 use Rattle.json_core.proofs.Turns.{no_field_left, no_item_left, no_position_left}
 use Rattle.json_core.proofs.writing.+write.Goals as goal
 
+-- ---- write_each: the children, one after the other, as the items of an array that began.
+-- What is written so far and the items that are left are always the whole array.
+
 pub write_each-children-init : goal.write_each-children-init
 write_each-children-init t c = record {
   can = tt;
@@ -45,6 +49,67 @@ write_each-children-init t c = record {
   ) (children_below c.args.node.now);
   grows = grows_not c.args.orders.now;
 }
+
+pub write_each-children-preserved : goal.write_each-children-preserved
+write_each-children-preserved t c =
+    let child : c.children.child-iterator ≡ c.in-Some.child ∷ c.next.new.self = search rules in
+    record {
+      can = search rules;
+      ends = search rules;
+      reported = item_turn c.children.out c.write_node.new.out (json_seen c.in-Some.child)
+          (items_of (map json_seen c.next.new.self)) c.in_ok-write_node.ensures.adds
+          ∙ ap (λ ss. prints c.children.out
+          (items_tokens (items_outline (items_of (map json_seen ss)))))
+          (sym child) ∙ c.children.invariant.reported;
+      below = search rules;
+      grows = grows_again c.args.orders.now c.children.orders c.write_node.new.orders
+          c.children.invariant.grows c.write_node.ensures.grows;
+    }
+
+pub write_each-returns-clause-adds : goal.write_each-returns-clause-adds
+write_each-returns-clause-adds t c =
+    let none : c.children.child-iterator ≡ [] = search rules in
+    ap (λ ss. prints c.children.out (items_tokens (items_outline (items_of (map json_seen ss)))))
+    (sym none) ∙ c.children.invariant.reported
+
+-- ---- write_items: `write_each` between the brackets
+
+pub write_items-returns-clause-adds : goal.write_items-returns-clause-adds
+write_items-returns-clause-adds t c =
+    on_ok_weaker c.end_array.result (λ e. array_whole c.args.out.now c.begin_array.new.self
+    c.write_each.new.out c.end_array.new.self
+    (items_of (map json_seen (children_of c.args.node.now))) c.in_ok-begin_array.ensures
+    c.in_ok-write_each.ensures.adds e) c.end_array.ensures
+
+-- ---- write_child: one child by its position, from the list or by steps past those before it
+
+pub write_child-write_node-requires : goal.write_child-write_node-requires
+write_child-write_node-requires t c =
+    let got = child_listed c.args.node.now c.args.listed.now c.args.position c.in-Some.child.now
+    c.requires.listed (search rules) c.in-Some.ensures.lookup.1 in
+    let h = child_below c.args.node.now c.args.position c.in-Some.child.now got in
+    (omega (arith, h.1), c.requires.types ∙ sym h.0)
+
+pub write_child-write_node-requires-in-None : goal.write_child-write_node-requires-in-None
+write_child-write_node-requires-in-None t c =
+    let h = child_below c.args.node.now c.args.position c.child_at.result
+    (sym c.child_at.ensures) in
+    (omega (arith, h.1), c.requires.types ∙ sym h.0)
+
+pub write_child-returns-in-Some-clause-adds : goal.write_child-returns-in-Some-clause-adds
+write_child-returns-in-Some-clause-adds t c =
+    let got = child_listed c.args.node.now c.args.listed.now c.args.position c.in-Some.child.now
+    c.requires.listed (search rules) c.in-Some.ensures.lookup.1 in
+    rw (child_data c.args.node.now c.args.position c.in-Some.child.now got)
+    c.write_node.ensures.adds
+
+pub write_child-returns-in-None-clause-adds : goal.write_child-returns-in-None-clause-adds
+write_child-returns-in-None-clause-adds t c =
+    rw (child_data c.args.node.now c.args.position c.child_at.result (sym c.child_at.ensures))
+    c.write_node-in-None.ensures.adds
+
+-- ---- write_in_order: each child after its field's name, where the names are in order.
+-- Fields and children are read side by side, so as many of both are left after each turn.
 
 pub write_in_order-members-init : goal.write_in_order-members-init
 write_in_order-members-init t c =
@@ -61,6 +126,33 @@ write_in_order-members-init t c =
       below = rw (gives, second, c.children.ensures, c.requires.types)
           (children_below c.args.node.now);
       grows = grows_not c.args.orders.now;
+    }
+
+pub write_in_order-members-preserved : goal.write_in_order-members-preserved
+write_in_order-members-preserved t c =
+    let fs = iter_rest c.next.new.self.a in
+    let ss = c.next.new.self.b in
+    let field : iter_rest c.members.field-iterator.a ≡ c.in-Some.field.now ∷ fs = search rules in
+    let child : c.members.field-iterator.b ≡ c.in-Some.child ∷ ss = search rules in
+    let n = c.name_of.result.now in
+    let said : c.write_node.new.out
+    ≡ prints (prints c.members.out (key n ∷ [])) (json_tokens (outline (json_seen c.in-Some.child)))
+    = c.in_ok-write_node.ensures.adds
+    ∙ ap (λ w. prints w (json_tokens (outline (json_seen c.in-Some.child)))) c.in_ok-key.ensures in
+    record {
+      can = search rules;
+      ends = search rules;
+      named = search rules;
+      plain = plain_rest c.args.escapes c.in-Some.field.now fs
+          (subst (λ gs. OnPlain c.args.escapes (AllPlain gs)) field c.members.invariant.plain);
+      reported = in_order_turn c.members.out c.write_node.new.out c.in-Some.field.now fs
+          (json_seen c.in-Some.child) (map json_seen ss) n c.name_of.ensures said
+          ∙ ap₂ (λ gs us. prints c.members.out
+          (members_tokens (members_outline (members_in_order gs (map json_seen us)))))
+          (sym field) (sym child) ∙ c.members.invariant.reported;
+      below = search rules;
+      grows = grows_again c.args.orders.now c.members.orders c.write_node.new.orders
+          c.members.invariant.grows c.write_node.ensures.grows;
     }
 
 pub write_in_order-returns-clause-adds : goal.write_in_order-returns-clause-adds
@@ -81,6 +173,16 @@ write_in_order-returns-clause-adds t c =
     (fields_json fs (items_of ds)) c.in_ok-begin_object.ensures c.members.invariant.reported none e
     (in_order_json_is fs ds c.requires.keys count)) c.end_object.ensures
 
+pub write_in_order-key-requires : goal.write_in_order-key-requires
+write_in_order-key-requires t c =
+    let fs = iter_rest c.next.new.self.a in
+    let field : iter_rest c.members.field-iterator.a ≡ c.in-Some.field.now ∷ fs = search rules in
+    plain_first c.args.escapes c.in-Some.field.now fs c.name_of.result.now c.name_of.ensures
+    (subst (λ gs. OnPlain c.args.escapes (AllPlain gs)) field c.members.invariant.plain)
+
+-- ---- write_sorted: the same where the names are out of order.
+-- A turn asks the kept order for a position, and writes the field and the child that stand there.
+
 pub write_sorted-members-init : goal.write_sorted-members-init
 write_sorted-members-init t c = record {
   named = positions_are_named c.args.fields.now _ c.requires.keys.1;
@@ -88,6 +190,31 @@ write_sorted-members-init t c = record {
   types = c.requires.types;
   grows = grows_not c.args.orders.now;
 }
+
+pub write_sorted-members-preserved : goal.write_sorted-members-preserved
+write_sorted-members-preserved t c =
+    let fs = c.args.fields.now in
+    let ds = map json_seen (children_of c.args.node.now) in
+    let order = slice_range c.args.orders.now.positions c.args.start (c.args.start + length fs) in
+    let p = c.position-position.result in
+    let n = c.name_of.result.now in
+    let turn = turn_at fs c.args.orders.now c.members.orders c.args.start c.members.turn p
+    c.members.invariant.grows c.requires.keys (omega arith) c.members.invariant.named
+    c.position-position.ensures in
+    let said : c.write_child.new.out
+    ≡ prints (prints c.members.out (key n ∷ [])) (json_tokens (outline (data_at ds p))) =
+    c.in_ok-write_child.ensures.adds
+    ∙ ap (λ w. prints w (json_tokens (outline (data_at ds p)))) c.in_ok-key.ensures in
+    record {
+      named = named_after fs order c.members.turn p turn c.members.invariant.named;
+      reported = sorted_turn fs ds order c.members.turn p c.index-fields-position.result n
+          (data_at ds p) c.members.out c.write_child.new.out turn c.index-fields-position.is
+          c.name_of.ensures refl said
+          ∙ c.members.invariant.reported;
+      types = c.write_child.ensures.grows.types ∙ c.members.invariant.types;
+      grows = grows_again c.args.orders.now c.members.orders c.write_child.new.orders
+          c.members.invariant.grows c.write_child.ensures.grows;
+    }
 
 pub write_sorted-bounds-fields-position : goal.write_sorted-bounds-fields-position
 write_sorted-bounds-fields-position t c = (turn_at c.args.fields.now c.args.orders.now
@@ -118,31 +245,6 @@ write_sorted-write_child-requires t c =
       ),
     )
 
-pub write_sorted-members-preserved : goal.write_sorted-members-preserved
-write_sorted-members-preserved t c =
-    let fs = c.args.fields.now in
-    let ds = map json_seen (children_of c.args.node.now) in
-    let order = slice_range c.args.orders.now.positions c.args.start (c.args.start + length fs) in
-    let p = c.position-position.result in
-    let n = c.name_of.result.now in
-    let turn = turn_at fs c.args.orders.now c.members.orders c.args.start c.members.turn p
-    c.members.invariant.grows c.requires.keys (omega arith) c.members.invariant.named
-    c.position-position.ensures in
-    let said : c.write_child.new.out
-    ≡ prints (prints c.members.out (key n ∷ [])) (json_tokens (outline (data_at ds p))) =
-    c.in_ok-write_child.ensures.adds
-    ∙ ap (λ w. prints w (json_tokens (outline (data_at ds p)))) c.in_ok-key.ensures in
-    record {
-      named = named_after fs order c.members.turn p turn c.members.invariant.named;
-      reported = sorted_turn fs ds order c.members.turn p c.index-fields-position.result n
-          (data_at ds p) c.members.out c.write_child.new.out turn c.index-fields-position.is
-          c.name_of.ensures refl said
-          ∙ c.members.invariant.reported;
-      types = c.write_child.ensures.grows.types ∙ c.members.invariant.types;
-      grows = grows_again c.args.orders.now c.members.orders c.write_child.new.orders
-          c.members.invariant.grows c.write_child.ensures.grows;
-    }
-
 pub write_sorted-returns-clause-adds : goal.write_sorted-returns-clause-adds
 write_sorted-returns-clause-adds t c =
     let fs = c.args.fields.now in
@@ -158,11 +260,25 @@ write_sorted-returns-clause-adds t c =
     (no_position_left fs ds order c.members.turn (omega (arith, many))) e
     (sorted_json_is fs order ds c.requires.keys.1 count)) c.end_object.ensures
 
+pub write_sorted-key-requires : goal.write_sorted-key-requires
+write_sorted-key-requires t c =
+    let turn = turn_at c.args.fields.now c.args.orders.now c.members.orders c.args.start
+    c.members.turn c.position-position.result c.members.invariant.grows c.requires.keys
+    (omega arith) c.members.invariant.named c.position-position.ensures in
+    plain_at c.args.escapes c.args.fields.now c.position-position.result c.name_of.result.now
+    (name_is c.args.fields.now c.position-position.result c.index-fields-position.result
+    c.name_of.result.now turn.field c.index-fields-position.is c.name_of.ensures) turn.within
+    c.requires.escapes
+
+-- ---- write_fields: an array or an object, by what is known of the names
+
 pub write_fields-returns-in-Unnamed-clause-adds : goal.write_fields-returns-in-Unnamed-clause-adds
 write_fields-returns-in-Unnamed-clause-adds t c =
     let keys = c.in_ok-keys.ensures.keys.0 in
     rw (unnamed_json_is c.args.fields.now (jsons (children_of c.args.node.now))
     (rw c.in-Unnamed.is at keys)) c.write_items.ensures.adds
+
+-- ---- write_arm: the same as the one member of an object, whose key is the arm's name
 
 pub write_arm-returns-in_ok-write_each-in-Unnamed-clause-adds :
     goal.write_arm-returns-in_ok-write_each-in-Unnamed-clause-adds
@@ -200,6 +316,9 @@ write_arm-returns-in_ok-write_sorted-in-Sorted-clause-adds t c =
     (fields_json c.as_slice-fields.result.now (jsons (children_of c.args.node.now)))
     c.in_ok-begin_member-in-Sorted.ensures c.in_ok-write_sorted-in-Sorted.ensures.adds e)
     c.end_object-in-Sorted.ensures)
+
+-- ---- write_node: each kind of node. First what the calls require: a node reports enough for its
+-- JSON, as `Reported` says of each layout; then the text, a kind each.
 
 pub write_node-write_unsigned-requires : goal.write_node-write_unsigned-requires
 write_node-write_unsigned-requires t c =
@@ -347,101 +466,3 @@ pub write_node-returns-in-Count-clause-adds : goal.write_node-returns-in-Count-c
 write_node-returns-in-Count-clause-adds t c =
     rw (reported c.args.node.now _ c.in-Count.ensures.value c.in-Count.ensures.same)
     c.write_count.ensures
-
-pub write_in_order-members-preserved : goal.write_in_order-members-preserved
-write_in_order-members-preserved t c =
-    let fs = iter_rest c.next.new.self.a in
-    let ss = c.next.new.self.b in
-    let field : iter_rest c.members.field-iterator.a ≡ c.in-Some.field.now ∷ fs = search rules in
-    let child : c.members.field-iterator.b ≡ c.in-Some.child ∷ ss = search rules in
-    let n = c.name_of.result.now in
-    let said : c.write_node.new.out
-    ≡ prints (prints c.members.out (key n ∷ [])) (json_tokens (outline (json_seen c.in-Some.child)))
-    = c.in_ok-write_node.ensures.adds
-    ∙ ap (λ w. prints w (json_tokens (outline (json_seen c.in-Some.child)))) c.in_ok-key.ensures in
-    record {
-      can = search rules;
-      ends = search rules;
-      named = search rules;
-      plain = plain_rest c.args.escapes c.in-Some.field.now fs
-          (subst (λ gs. OnPlain c.args.escapes (AllPlain gs)) field c.members.invariant.plain);
-      reported = in_order_turn c.members.out c.write_node.new.out c.in-Some.field.now fs
-          (json_seen c.in-Some.child) (map json_seen ss) n c.name_of.ensures said
-          ∙ ap₂ (λ gs us. prints c.members.out
-          (members_tokens (members_outline (members_in_order gs (map json_seen us)))))
-          (sym field) (sym child) ∙ c.members.invariant.reported;
-      below = search rules;
-      grows = grows_again c.args.orders.now c.members.orders c.write_node.new.orders
-          c.members.invariant.grows c.write_node.ensures.grows;
-    }
-
-pub write_each-children-preserved : goal.write_each-children-preserved
-write_each-children-preserved t c =
-    let child : c.children.child-iterator ≡ c.in-Some.child ∷ c.next.new.self = search rules in
-    record {
-      can = search rules;
-      ends = search rules;
-      reported = item_turn c.children.out c.write_node.new.out (json_seen c.in-Some.child)
-          (items_of (map json_seen c.next.new.self)) c.in_ok-write_node.ensures.adds
-          ∙ ap (λ ss. prints c.children.out
-          (items_tokens (items_outline (items_of (map json_seen ss)))))
-          (sym child) ∙ c.children.invariant.reported;
-      below = search rules;
-      grows = grows_again c.args.orders.now c.children.orders c.write_node.new.orders
-          c.children.invariant.grows c.write_node.ensures.grows;
-    }
-
-pub write_each-returns-clause-adds : goal.write_each-returns-clause-adds
-write_each-returns-clause-adds t c =
-    let none : c.children.child-iterator ≡ [] = search rules in
-    ap (λ ss. prints c.children.out (items_tokens (items_outline (items_of (map json_seen ss)))))
-    (sym none) ∙ c.children.invariant.reported
-
-pub write_items-returns-clause-adds : goal.write_items-returns-clause-adds
-write_items-returns-clause-adds t c =
-    on_ok_weaker c.end_array.result (λ e. array_whole c.args.out.now c.begin_array.new.self
-    c.write_each.new.out c.end_array.new.self
-    (items_of (map json_seen (children_of c.args.node.now))) c.in_ok-begin_array.ensures
-    c.in_ok-write_each.ensures.adds e) c.end_array.ensures
-
-pub write_in_order-key-requires : goal.write_in_order-key-requires
-write_in_order-key-requires t c =
-    let fs = iter_rest c.next.new.self.a in
-    let field : iter_rest c.members.field-iterator.a ≡ c.in-Some.field.now ∷ fs = search rules in
-    plain_first c.args.escapes c.in-Some.field.now fs c.name_of.result.now c.name_of.ensures
-    (subst (λ gs. OnPlain c.args.escapes (AllPlain gs)) field c.members.invariant.plain)
-
-pub write_sorted-key-requires : goal.write_sorted-key-requires
-write_sorted-key-requires t c =
-    let turn = turn_at c.args.fields.now c.args.orders.now c.members.orders c.args.start
-    c.members.turn c.position-position.result c.members.invariant.grows c.requires.keys
-    (omega arith) c.members.invariant.named c.position-position.ensures in
-    plain_at c.args.escapes c.args.fields.now c.position-position.result c.name_of.result.now
-    (name_is c.args.fields.now c.position-position.result c.index-fields-position.result
-    c.name_of.result.now turn.field c.index-fields-position.is c.name_of.ensures) turn.within
-    c.requires.escapes
-
-pub write_child-write_node-requires : goal.write_child-write_node-requires
-write_child-write_node-requires t c =
-    let got = child_listed c.args.node.now c.args.listed.now c.args.position c.in-Some.child.now
-    c.requires.listed (search rules) c.in-Some.ensures.lookup.1 in
-    let h = child_below c.args.node.now c.args.position c.in-Some.child.now got in
-    (omega (arith, h.1), c.requires.types ∙ sym h.0)
-
-pub write_child-write_node-requires-in-None : goal.write_child-write_node-requires-in-None
-write_child-write_node-requires-in-None t c =
-    let h = child_below c.args.node.now c.args.position c.child_at.result
-    (sym c.child_at.ensures) in
-    (omega (arith, h.1), c.requires.types ∙ sym h.0)
-
-pub write_child-returns-in-Some-clause-adds : goal.write_child-returns-in-Some-clause-adds
-write_child-returns-in-Some-clause-adds t c =
-    let got = child_listed c.args.node.now c.args.listed.now c.args.position c.in-Some.child.now
-    c.requires.listed (search rules) c.in-Some.ensures.lookup.1 in
-    rw (child_data c.args.node.now c.args.position c.in-Some.child.now got)
-    c.write_node.ensures.adds
-
-pub write_child-returns-in-None-clause-adds : goal.write_child-returns-in-None-clause-adds
-write_child-returns-in-None-clause-adds t c =
-    rw (child_data c.args.node.now c.args.position c.child_at.result (sym c.child_at.ensures))
-    c.write_node-in-None.ensures.adds
