@@ -1,4 +1,4 @@
-//! The calls that add a node to a value that is built.
+//! The judging calls that add a node.
 
 ghost use Rattle.std.specs.Prelude.{◌≡◌};
 ghost use Rattle.grammar_core.specs.Preorder as head;
@@ -55,7 +55,7 @@ impl<'r, A: Allocator> Builder<'r, A> {
             self.old self.new result }
     {
         match self.wanted()? {
-            Form::Empty => Ok(self.add_leaf(Leaf::Empty)?),
+            Form::Empty => Ok(self.raw.add_leaf(Leaf::Empty)?),
             _ => Err(BuildFault::WrongKind),
         }
     }
@@ -69,7 +69,7 @@ impl<'r, A: Allocator> Builder<'r, A> {
             (with_leaf self.old (head.leaf (tree.bool value))) self.old self.new result }
     {
         match self.wanted()? {
-            Form::Primitive(Primitive::Bool) => Ok(self.add_leaf(Leaf::Bool(value))?),
+            Form::Primitive(Primitive::Bool) => Ok(self.raw.add_leaf(Leaf::Bool(value))?),
             _ => Err(BuildFault::WrongKind),
         }
     }
@@ -91,7 +91,7 @@ impl<'r, A: Allocator> Builder<'r, A> {
         if value > most_unsigned(width) {
             return Err(BuildFault::OutOfRange);
         }
-        self.add_leaf(Leaf::Unsigned(value))?;
+        self.raw.add_leaf(Leaf::Unsigned(value))?;
         Ok(())
     }
 
@@ -104,7 +104,7 @@ impl<'r, A: Allocator> Builder<'r, A> {
             (with_leaf self.old (head.leaf (tree.count count))) self.old self.new result }
     {
         match self.wanted()? {
-            Form::Count => Ok(self.add_leaf(Leaf::Count(count))?),
+            Form::Count => Ok(self.raw.add_leaf(Leaf::Count(count))?),
             _ => Err(BuildFault::WrongKind),
         }
     }
@@ -121,7 +121,7 @@ impl<'r, A: Allocator> Builder<'r, A> {
             return Err(BuildFault::WrongKind);
         };
         match primitive.kind() {
-            PrimitiveKind::Wide(_) => Ok(self.add_leaf(Leaf::Wide(&value))?),
+            PrimitiveKind::Wide(_) => Ok(self.raw.add_leaf(Leaf::Wide(&value))?),
             _ => Err(BuildFault::WrongKind),
         }
     }
@@ -142,7 +142,7 @@ impl<'r, A: Allocator> Builder<'r, A> {
         if !is_within(value, most_signed(width)) {
             return Err(BuildFault::OutOfRange);
         }
-        self.add_leaf(Leaf::Signed(value))?;
+        self.raw.add_leaf(Leaf::Signed(value))?;
         Ok(())
     }
 
@@ -155,7 +155,7 @@ impl<'r, A: Allocator> Builder<'r, A> {
             (with_leaf self.old (head.leaf (tree.char value))) self.old self.new result }
     {
         match self.wanted()? {
-            Form::Primitive(Primitive::Char) => Ok(self.add_leaf(Leaf::Char(value))?),
+            Form::Primitive(Primitive::Char) => Ok(self.raw.add_leaf(Leaf::Char(value))?),
             _ => Err(BuildFault::WrongKind),
         }
     }
@@ -174,7 +174,7 @@ impl<'r, A: Allocator> Builder<'r, A> {
         if !target.holds(value) {
             return Err(BuildFault::OutOfRange);
         }
-        self.add_leaf(Leaf::Compact(value))?;
+        self.raw.add_leaf(Leaf::Compact(value))?;
         Ok(())
     }
 
@@ -189,7 +189,7 @@ impl<'r, A: Allocator> Builder<'r, A> {
         let Form::Fields = self.wanted()? else {
             return Err(BuildFault::WrongKind);
         };
-        self.add_fields()?;
+        self.raw.add_fields()?;
         Ok(())
     }
 
@@ -204,7 +204,7 @@ impl<'r, A: Allocator> Builder<'r, A> {
         let Form::Arm = self.wanted()? else {
             return Err(BuildFault::WrongKind);
         };
-        if !self.add_arm(index)? {
+        if !self.raw.add_arm(index)? {
             return Err(BuildFault::NoSuchVariant);
         }
         Ok(())
@@ -223,7 +223,7 @@ impl<'r, A: Allocator> Builder<'r, A> {
             Form::Array(_) | Form::Sequence => {}
             _ => return Err(BuildFault::WrongKind),
         }
-        self.add_list(count)?;
+        self.raw.add_list(count)?;
         Ok(())
     }
 }

@@ -1,4 +1,4 @@
-//! Appending nodes to a value that is built, where the caller knows what they are, and closing those that are whole.
+//! The calls of a raw builder that add a node by its content, and the closing of complete nodes.
 
 ghost use Rattle.std.specs.Prelude.{◌≡◌, ◌<◌, ◌≤◌, ◌+◌, ◌++◌, ◌∷◌, [], length, true, false, OnOk};
 ghost use Rattle.std.specs.Prelude.{OnErr, Ok, None, vec_len, vec_capacity};
@@ -13,7 +13,7 @@ ghost use Rattle.value_core.specs.Built.{IsSettled, closings, settled_walk, with
 ghost use Rattle.value_core.specs.Built.{IsNextLeaf, IsNextOpen};
 ghost use Rattle.value_core.specs.Walked.{advanced, elements_after, next_of, opened};
 
-use crate::builder::Builder;
+use crate::raw_builder::RawBuilder;
 use crate::walk::Walk;
 use count_core::Count;
 use growth_core::GrowVec;
@@ -21,7 +21,8 @@ use node_core::{Content, Leaf, Node, Remaining};
 use registry_core::TypeId;
 use std::alloc::{AllocError, Allocator};
 
-/// Makes room for one more node of a walk: where there is none, ahead for others too, and for the bytes beside them.
+/// Makes room for one more node of a walk: where there is none, ahead for others too, and for the
+/// bytes beside them.
 ///
 /// Refuses want of memory for one more. Nothing that is there changes in either case.
 #[inline(always)]
@@ -40,7 +41,8 @@ fn make_room<A: Allocator>(
     walk.make_room(nodes, pool)
 }
 
-/// Appends a node without children, and to the pool what does not fit it: both, or where memory is refused neither.
+/// Appends a node without children, and to the pool what does not fit it: both, or where memory is
+/// refused neither.
 #[inline(always)]
 pub(crate) fn append<A: Allocator>(
     nodes: &mut GrowVec<Node, A>,
@@ -119,7 +121,8 @@ fn close_whole<A: Allocator>(
     }
 }
 
-/// Closes the open nodes that are whole. After most nodes something is next in the innermost one, and then none is.
+/// Closes the open nodes that are whole. After most nodes something is next in the innermost one,
+/// and then none is.
 #[inline(always)]
 pub(crate) fn close_complete<A: Allocator>(
     walk: &mut Walk<'_, A>,
@@ -136,9 +139,12 @@ pub(crate) fn close_complete<A: Allocator>(
     }
 }
 
-impl<'r, A: Allocator> Builder<'r, A> {
-    /// Adds a node without children, which the caller knows to be a value of the next type: what `bool`, `unsigned` and
-    /// the other calls do once they have judged. Where memory is refused nothing changes.
+impl<'r, A: Allocator> RawBuilder<'r, A> {
+    /// Adds a node without children, which must be a value of the next type.
+    ///
+    /// # Errors
+    ///
+    /// Returns `AllocError` if an allocation fails; the builder is unchanged.
     #[inline(always)]
     pub fn add_leaf(&mut self, leaf: Leaf<'_>) -> Result<(), AllocError>
         requires closed { self.old.run ≡ None }
@@ -155,7 +161,12 @@ impl<'r, A: Allocator> Builder<'r, A> {
         Ok(())
     }
 
-    /// The same for an element of a list that another follows: no node ends with it, and another of its type is next.
+    /// Adds an element of a list, which another element must follow: no node ends with it, and
+    /// another of its type is next.
+    ///
+    /// # Errors
+    ///
+    /// Returns `AllocError` if an allocation fails; the builder is unchanged.
     #[inline(always)]
     pub fn add_element(&mut self, leaf: Leaf<'_>) -> Result<(), AllocError>
         requires closed { self.old.run ≡ None }
@@ -175,7 +186,11 @@ impl<'r, A: Allocator> Builder<'r, A> {
         Ok(())
     }
 
-    /// Adds a node whose children come next, for the value of the next type. Where memory is refused nothing changes.
+    /// Adds a node of the next type, whose children come next.
+    ///
+    /// # Errors
+    ///
+    /// Returns `AllocError` if an allocation fails; the builder is unchanged.
     #[inline(always)]
     pub(crate) fn add_open(&mut self, content: Content, left: Remaining) -> Result<(), AllocError>
         requires closed { self.old.run ≡ None }
@@ -202,7 +217,12 @@ impl<'r, A: Allocator> Builder<'r, A> {
         Ok(())
     }
 
-    /// The same of a node that has none: it is whole at once, and takes no place among the open ones.
+    /// Adds a node of the next type that has no children. It is complete at once, so it is never
+    /// open.
+    ///
+    /// # Errors
+    ///
+    /// Returns `AllocError` if an allocation fails; the builder is unchanged.
     #[inline(always)]
     fn add_childless(&mut self, content: Content, left: Remaining) -> Result<(), AllocError>
         requires closed { self.old.run ≡ None }
@@ -227,9 +247,13 @@ impl<'r, A: Allocator> Builder<'r, A> {
         Ok(())
     }
 
-    /// Adds a node of one part together with that, which has none: what `add_open` and `add_leaf` do one after the other. The
-    /// node is whole at once, and takes no place among the open ones. Was there room for both? If not, and where memory is
-    /// refused, nothing changes.
+    /// Adds a node with its one part, which has no children, as `add_open` and then `add_leaf` do.
+    /// The node is complete at once, so it is never open. Returns whether two more nodes fit; if
+    /// not, the builder is unchanged.
+    ///
+    /// # Errors
+    ///
+    /// Returns `AllocError` if an allocation fails; the builder is unchanged.
     #[inline(always)]
     pub(crate) fn add_around(
         &mut self,

@@ -6,6 +6,7 @@ mod appending;
 mod build_fault;
 mod builder;
 mod opening;
+mod raw_builder;
 mod run_calls;
 mod walk;
 
@@ -13,4 +14,5 @@ pub use build_fault::BuildFault;
 pub use builder::Builder;
 pub use grammar_core::{Form, Limits, Next, RunKind, StopReason, laws};
 pub use node_core::{Children, Leaf, NODE_BYTES, NodeRef, Value, What, WriteFault, encode, send};
+pub use raw_builder::RawBuilder;
 pub use walk::Walk;

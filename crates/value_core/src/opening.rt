@@ -1,4 +1,4 @@
-//! Opening the next node of a value that is built, where the caller knows its form.
+//! The calls of a raw builder that open a node by its form.
 
 ghost use Rattle.std.specs.Prelude.{◌≡◌, OnOk, OnErr, IfOk, IfSome, true, false, Ok, None, is_some};
 ghost use Rattle.std.specs.Prelude.{length};
@@ -7,15 +7,18 @@ ghost use Rattle.value_core.specs.Opened.{IsListNext};
 ghost use Rattle.value_core.specs.Walked.{next_of};
 ghost use Rattle.value_core.specs.Wrapped.{Wraps, WrapsArray};
 
-use crate::builder::Builder;
+use crate::raw_builder::RawBuilder;
 use grammar_core::{Form, Next};
 use node_core::{Content, Leaf};
 use registry_core::TypeId;
 use std::alloc::{AllocError, Allocator};
 
-impl<'r, A: Allocator> Builder<'r, A> {
-    /// Adds a composite or a tuple, which the caller knows to be next: what `fields` does once it has judged. Where
-    /// memory is refused nothing changes.
+impl<'r, A: Allocator> RawBuilder<'r, A> {
+    /// Adds a composite or a tuple, which must be next.
+    ///
+    /// # Errors
+    ///
+    /// Returns `AllocError` if an allocation fails; the builder is unchanged.
     #[inline(always)]
     pub fn add_fields(&mut self) -> Result<(), AllocError>
         requires closed { self.old.run ≡ None }
@@ -27,9 +30,16 @@ impl<'r, A: Allocator> Builder<'r, A> {
         self.add_open(Content::Fields { size: 0 }, left)
     }
 
-    /// Adds the composite or tuple that is next together with its one part, where that is an array of u8 and stands whole on the
-    /// front of the bytes: what `add_fields` and `add_leaf` do one after the other, where there is room for two nodes. Reports
-    /// how many bytes the array has. Where it is not so, and where memory for these is refused, nothing changes.
+    /// Adds a composite or a tuple, which must be next, with its one part, as `add_fields` and then
+    /// `add_leaf` do. The part is an array of u8, and `bytes` begins with all of it. Returns the
+    /// length of the array, in bytes.
+    ///
+    /// Returns `None` if there is no such part, if `bytes` is too short, or if two more nodes do
+    /// not fit; the builder is unchanged.
+    ///
+    /// # Errors
+    ///
+    /// Returns `AllocError` if an allocation fails; the builder is unchanged.
     #[inline(always)]
     pub fn add_wrapped(&mut self, bytes: &[u8]) -> Result<Option<usize>, AllocError>
         requires closed { self.old.run ≡ None }
@@ -49,7 +59,12 @@ impl<'r, A: Allocator> Builder<'r, A> {
         Ok(Some(len))
     }
 
-    /// Adds it together with its one part, which is this array, where there is room for two nodes: was there?
+    /// Adds a composite or a tuple, which must be next, with its one part, which is this array.
+    /// Returns whether two more nodes fit; if not, the builder is unchanged.
+    ///
+    /// # Errors
+    ///
+    /// Returns `AllocError` if an allocation fails; the builder is unchanged.
     #[inline(never)]
     fn add_wrapped_array(&mut self, part: TypeId, array: &[u8]) -> Result<bool, AllocError>
         requires closed { self.old.run ≡ None }
@@ -63,8 +78,12 @@ impl<'r, A: Allocator> Builder<'r, A> {
         self.add_around(Content::Fields { size: 0 }, part, Leaf::Bytes(array))
     }
 
-    /// Adds a variant, which the caller knows to be next, by the index of its arm: what `arm` does once it has judged.
-    /// Reports whether there is an arm of the index; where there is none, and where memory is refused, nothing changes.
+    /// Adds a variant, which must be next, by the index of its arm. Returns whether an arm has this
+    /// index; if not, the builder is unchanged.
+    ///
+    /// # Errors
+    ///
+    /// Returns `AllocError` if an allocation fails; the builder is unchanged.
     #[inline(always)]
     pub fn add_arm(&mut self, index: u8) -> Result<bool, AllocError>
         requires closed { self.old.run ≡ None }
@@ -82,8 +101,11 @@ impl<'r, A: Allocator> Builder<'r, A> {
         Ok(true)
     }
 
-    /// Adds an array of this length, or a sequence of so many elements that take bytes, which the caller knows to be
-    /// next: what `list` does once it has judged. Where memory is refused nothing changes.
+    /// Adds an array of `count` elements, or a sequence of as many that take bytes; it must be next.
+    ///
+    /// # Errors
+    ///
+    /// Returns `AllocError` if an allocation fails; the builder is unchanged.
     #[inline(always)]
     pub fn add_list(&mut self, count: u32) -> Result<(), AllocError>
         requires closed { self.old.run ≡ None }

@@ -1,4 +1,4 @@
-//! The calls that add a text or a run of bytes, whole or in pieces.
+//! The judging calls that add a text or a run of bytes, complete or in pieces.
 
 ghost use Rattle.std.specs.Prelude.{◌≡◌};
 ghost use Rattle.grammar_core.specs.Preorder as head;
@@ -31,7 +31,7 @@ impl<'r, A: Allocator> Builder<'r, A> {
         if text.len() > u32::MAX as usize {
             return Err(BuildFault::OutOfRange);
         }
-        self.add_leaf(Leaf::Text(text.as_bytes()))?;
+        self.raw.add_leaf(Leaf::Text(text.as_bytes()))?;
         Ok(())
     }
 
@@ -52,7 +52,7 @@ impl<'r, A: Allocator> Builder<'r, A> {
         if !fits {
             return Err(BuildFault::OutOfRange);
         }
-        self.add_leaf(Leaf::Bytes(bytes))?;
+        self.raw.add_leaf(Leaf::Bytes(bytes))?;
         Ok(())
     }
 
@@ -67,7 +67,7 @@ impl<'r, A: Allocator> Builder<'r, A> {
         let Form::Primitive(Primitive::Str) = self.wanted()? else {
             return Err(BuildFault::WrongKind);
         };
-        self.open_run(RunKind::Text, len);
+        self.raw.open_run(RunKind::Text, len);
         Ok(())
     }
 
@@ -82,7 +82,7 @@ impl<'r, A: Allocator> Builder<'r, A> {
         if piece.len() > self.missing_text()? {
             return Err(BuildFault::OutOfRange);
         }
-        self.extend_run(piece)?;
+        self.raw.extend_run(piece)?;
         Ok(())
     }
 
@@ -114,7 +114,7 @@ impl<'r, A: Allocator> Builder<'r, A> {
             Form::ByteArray(_) => return Err(BuildFault::OutOfRange),
             _ => return Err(BuildFault::WrongKind),
         };
-        self.open_run(kind, len);
+        self.raw.open_run(kind, len);
         Ok(())
     }
 
@@ -129,7 +129,7 @@ impl<'r, A: Allocator> Builder<'r, A> {
         if piece.len() > self.missing_bytes()? {
             return Err(BuildFault::OutOfRange);
         }
-        self.extend_run(piece)?;
+        self.raw.extend_run(piece)?;
         Ok(())
     }
 
@@ -174,9 +174,9 @@ impl<'r, A: Allocator> Builder<'r, A> {
         requires { IsRunWhole self.old }
         ensures { Adds (run_fault self.old.run) (with_run_ended self.old) self.old self.new result }
     {
-        match self.bad_text() {
+        match self.raw.bad_text() {
             Some(valid) => Err(BuildFault::BadText { valid }),
-            None => Ok(self.close_run()?),
+            None => Ok(self.raw.close_run()?),
         }
     }
 }
