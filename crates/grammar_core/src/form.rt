@@ -1,10 +1,9 @@
 //! What a value of a type begins with, by its step in the table of its registry.
 
-ghost use Rattle.std.specs.Prelude.{◌≡◌, option_map};
+ghost use Rattle.std.specs.Prelude.{◌≡◌};
 ghost use Rattle.grammar_core.specs.Forms.{next_at, next_of_step};
-ghost use Rattle.graph_core.specs.Types.{shape};
 
-use registry_core::{Primitive, TypeDef, TypeId};
+use registry_core::{Primitive, TypeId};
 use scale_core::Target;
 use widths_core::{Checked, TypeStep};
 
@@ -57,14 +56,6 @@ pub enum Next {
     Stop(StopReason),
     /// A value of this form.
     Wants(Form),
-}
-
-/// What a type is made of, where it is a position.
-pub fn shape(checked: &Checked, ty: TypeId) -> Option<&TypeDef>
-    ensures { option_map (λ d. d.now) result ≡ shape checked.now.types ty.0 }
-{
-    let info = checked.registry().types().get(ty.0 as usize)?;
-    Some(&info.shape)
 }
 
 /// What a value of a type of this step begins with, or why there is none, where its depth is within the limit (SCALE

@@ -1,7 +1,6 @@
 //! Looks up what the JSON of a node needs of the definition of its type.
 
 ghost use Rattle.std.specs.Prelude.{◌≡◌, ◌<◌, ◌^◌, length, option_map, IfSome};
-ghost use Rattle.registry_core.specs.Fits.{FitsDefinition};
 ghost use Rattle.widths_core.specs.Targets.{compact_target_of};
 ghost use Rattle.graph_core.specs.Types.{shape};
 ghost use Rattle.registry_core.specs.Kinds.{kind_of};
@@ -9,18 +8,9 @@ ghost use Rattle.json_core.specs.Defined.{kind_json, integer_json, compact_json,
 ghost use Rattle.json_core.specs.Defined.{composite_fields};
 
 use crate::integer_json::IntegerJson;
-use registry_core::{Arm, Field, Primitive, PrimitiveKind, TypeDef, TypeId};
+use registry_core::{Arm, Field, Primitive, PrimitiveKind, TypeDef};
 use value_core::NodeRef;
 use widths_core::Checked;
-
-/// Returns the definition of a type, if the registry has the type.
-fn definition(checked: &Checked, ty: TypeId) -> Option<&TypeDef>
-    ensures known { option_map (λ d. d.now) result ≡ shape checked.now.types ty.0 }
-    ensures fits { IfSome result (λ d. FitsDefinition d.now) }
-{
-    let info = checked.registry().types().get(ty.0 as usize)?;
-    Some(&info.shape)
-}
 
 /// Returns how integers of the primitive stand in JSON.
 fn primitive_json(primitive: Primitive) -> IntegerJson
@@ -39,7 +29,7 @@ pub(crate) fn integer_json(checked: &Checked, node: &NodeRef<'_, '_>) -> Integer
     requires { checked.now.types ≡ node.now.types }
     ensures { result ≡ integer_json (shape node.now.types node.now.ty) }
 {
-    match definition(checked, node.type_id()) {
+    match checked.shape(node.type_id()) {
         Some(TypeDef::Primitive(primitive)) => primitive_json(*primitive),
         _ => IntegerJson::Number,
     }
@@ -67,7 +57,7 @@ pub(crate) fn defined_arm<'r>(
         ≡ defined_arm (shape node.now.types node.now.ty) position }
     ensures few { IfSome result (λ a. length a.now.fields < 2 ^ 32) }
 {
-    match definition(checked, node.type_id()) {
+    match checked.shape(node.type_id()) {
         Some(TypeDef::Variant(arms)) => arms.as_slice().get(position as usize),
         _ => None,
     }
@@ -83,7 +73,7 @@ pub(crate) fn composite_fields<'r>(
         ≡ composite_fields (shape node.now.types node.now.ty) }
     ensures few { IfSome result (λ fs. length fs.now < 2 ^ 32) }
 {
-    match definition(checked, node.type_id()) {
+    match checked.shape(node.type_id()) {
         Some(TypeDef::Composite(fields)) => Some(fields.as_slice()),
         _ => None,
     }

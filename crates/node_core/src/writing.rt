@@ -14,7 +14,6 @@ ghost use Rattle.node_core.specs.Failed.{Meets};
 use crate::node::{Content, Node};
 use crate::pool::long_at;
 use crate::value::Value;
-use grammar_core::shape;
 use registry_core::{Primitive, PrimitiveKind, TypeDef, TypeId};
 use scale_core::{Sink, SinkFault, WriteOnce, put_compact};
 use std::alloc::Allocator;
@@ -44,7 +43,7 @@ fn width_of(checked: &Checked, ty: TypeId) -> usize
     ensures exact { result ≡ width_of (shape checked.now.types ty.0) }
     ensures bound { result ≤ 16 }
 {
-    match shape(checked, ty) {
+    match checked.shape(ty) {
         Some(TypeDef::Primitive(primitive)) => byte_width(*primitive),
         _ => 0,
     }
@@ -54,7 +53,7 @@ fn width_of(checked: &Checked, ty: TypeId) -> usize
 fn index_of(checked: &Checked, ty: TypeId, position: u32) -> Option<u8>
     ensures { result ≡ index_of (shape checked.now.types ty.0) position }
 {
-    match shape(checked, ty) {
+    match checked.shape(ty) {
         Some(TypeDef::Variant(arms)) => {
             let arm = arms.as_slice().get(position as usize)?;
             Some(arm.index)
@@ -67,7 +66,7 @@ fn index_of(checked: &Checked, ty: TypeId, position: u32) -> Option<u8>
 fn is_sequence(checked: &Checked, ty: TypeId) -> bool
     ensures { result ≡ is_sequence (shape checked.now.types ty.0) }
 {
-    matches!(shape(checked, ty), Some(TypeDef::Sequence(_)))
+    matches!(checked.shape(ty), Some(TypeDef::Sequence(_)))
 }
 
 /// Puts the low bytes of an integer's sixteen, as many as its type has, at the front of the array: how many they are.

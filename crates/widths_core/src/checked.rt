@@ -1,7 +1,8 @@
 //! A registry whose references are known, and what it says of its types.
 
-ghost use Rattle.std.specs.Prelude.{◌≡◌, ◌<◌, length, IfOk, IfErr, SomeIff, option_map, slice_get};
-ghost use Rattle.registry_core.specs.Fits.{FitsRegistry};
+ghost use Rattle.std.specs.Prelude.{◌≡◌, ◌<◌, length, IfOk, IfErr, IfSome, SomeIff, option_map};
+ghost use Rattle.std.specs.Prelude.{slice_get};
+ghost use Rattle.registry_core.specs.Fits.{FitsDefinition};
 ghost use Rattle.widths_core.specs.Analysed.{HasFewLooks};
 ghost use Rattle.widths_core.specs.Arms.{arm_at};
 ghost use Rattle.widths_core.specs.Checks.{CheckAnswers, Explains};
@@ -185,10 +186,10 @@ impl Checked {
         self.examined.registry()
     }
 
-    /// What a type is made of, where the id is a position.
-    fn shape(&self, id: TypeId) -> Option<&TypeDef>
+    /// Returns the definition of a type, or `None` if the registry has no type of this id.
+    pub fn shape(&self, id: TypeId) -> Option<&TypeDef>
         ensures known { option_map (λ d. d.now) result ≡ shape self.now.types id.0 }
-        ensures fits { FitsRegistry self.now.types }
+        ensures fits { IfSome result (λ d. FitsDefinition d.now) }
     {
         let info = self.registry().types().get(id.0 as usize)?;
         Some(&info.shape)
