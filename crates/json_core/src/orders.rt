@@ -261,8 +261,7 @@ impl<'r> Orders<'r> {
         Ok(())
     }
 
-    /// Keeps what is known of the fields in their slot. If other fields had it, both go into the
-    /// map.
+    /// Keeps what is known of the fields in their slot. If others had it, both go into the map.
     fn keep(&mut self, of: FieldsOf, known: Known) -> Result<(), AllocError>
         requires { AreKeysOf self.old.positions (fields_at self.old.types of) known }
         ensures { self.new ≡ self.old }

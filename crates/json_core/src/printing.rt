@@ -49,8 +49,7 @@ pub fn json_text<A: Allocator>(alloc: Global, value: &Value<'_, A>) -> Result<St
     Ok(out.into_text())
 }
 
-/// Writes a value's JSON to a sink: the text of [`json_text`], made complete before the first
-/// write.
+/// Writes a value's JSON to a sink: the text of [`json_text`], complete before the first write.
 ///
 /// # Errors
 ///
@@ -58,8 +57,8 @@ pub fn json_text<A: Allocator>(alloc: Global, value: &Value<'_, A>) -> Result<St
 /// - `Write` with `Device` if the writer returns an error, also for an interrupted write;
 /// - `Write` with `WroteNothing` if the writer takes no byte of a part that is not empty.
 ///
-/// After a failed write the sink has failed for good, and the front of the text that is reported
-/// was written. Otherwise `failed()` is unchanged.
+/// After a failed write the sink has failed for good, and as many of the text's first bytes were
+/// written as the error reports. Otherwise `failed()` is unchanged.
 pub fn print<A: Allocator, W: WriteOnce>(
     alloc: Global,
     value: &Value<'_, A>,

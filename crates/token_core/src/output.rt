@@ -180,9 +180,8 @@ impl Output {
         Ok(())
     }
 
-    /// Appends characters that need no escape. `opening` is the first quote, after the brace of a
-    /// first key. `closing` is the second quote, then a key's colon, and the `[` of an array after
-    /// it.
+    /// Appends characters that need no escape. `opening` is the first quote, after the `{` of an
+    /// object. `closing` is the second quote, then a key's colon, and then the `[` of an array.
     #[inline(always)]
     fn put_plain(
         &mut self,
