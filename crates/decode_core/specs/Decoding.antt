@@ -8,7 +8,7 @@ use Rattle.grammar_core.specs.Preorder.{tree_of}
 use Rattle.grammar_core.specs.Reading.{Refusal, truncated}
 use Rattle.grammar_core.specs.Tree.{Tree, nodes, text_bytes as tree_text_bytes}
 use Rattle.value_core.specs.Built.{Built, built_text_bytes, finished}
-use Rattle.value_core.specs.Refusals.{is_whole}
+use Rattle.value_core.specs.Refusals.{is_complete}
 use Rattle.node_core.specs.Shown.{Seen}
 use Rattle.value_core.specs.Walked.{start_of}
 use Rattle.grammar_core.specs.declared.limits.Limits.{Limits}
@@ -91,7 +91,7 @@ pub record IsDone (j : Job) (b : List ℕ) (s : Running) (n : ℕ) : Type 0 wher
   pub same : IsOf j s
   pub whole : (x : List ℕ) → remain j.registry (state_of s.built) x ≡ reported [] (Ok x)
   pub nothing : held_of s ≡ []
-  pub is_whole : is_whole s.built ≡ true
+  pub is_complete : is_complete s.built ≡ true
   pub sound : IsSound s
   pub outcome : IsOutcome j b (done (built_tree s.built)) n
   pub fits : n ≤ j.bytes
@@ -229,7 +229,7 @@ pub record IsKept (old new : Decoding) : Type 0 where
 
 -- where the value is reported to be whole it is there
 abbrev pub HasValue : Decoding → Result Progress DecodeFault → Type 0
-HasValue d (Ok (progress.Done used)) = (s : Running) × (d.run ≡ Ok s) × (is_whole s.built ≡ true)
+HasValue d (Ok (progress.Done used)) = (s : Running) × (d.run ≡ Ok s) × (is_complete s.built ≡ true)
 HasValue d _ = Unit {0}
 
 -- ---- a decoder is made, counted, and ended

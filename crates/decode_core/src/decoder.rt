@@ -3,7 +3,7 @@
 ghost use Rattle.std.specs.Prelude.{◌≡◌, ◌+◌, ◌++◌, ◌≤◌, [], ℕ, List, Ok, Err, IfOk, length};
 ghost use Rattle.std.specs.Prelude.{suc, take, true, IfErr, ◌-◌};
 ghost use Rattle.value_core.specs.Built.{finished};
-ghost use Rattle.value_core.specs.Refusals.{is_whole};
+ghost use Rattle.value_core.specs.Refusals.{is_complete};
 ghost use Rattle.machine_core.specs.Running.{Running};
 ghost use Rattle.machine_core.specs.Outcome.{Job};
 ghost use Rattle.machine_core.specs.Bound.{node_bound};
@@ -97,7 +97,7 @@ fn feed_run<A: Allocator>(
     requires led { IsLedTo run.old limit taken }
     ensures answers { (j : Job) (b : List ℕ) → j.bytes ≡ limit → RunLed j b taken (Ok run.old) →
         RunAnswers j (b ++ piece.now) taken run.new result }
-    ensures whole { is_whole run.old.built ≡ true → (result ≡ Fed.Done 0) × (run.new ≡ run.old) }
+    ensures whole { is_complete run.old.built ≡ true → (result ≡ Fed.Done 0) × (run.new ≡ run.old) }
     ensures takes { FedTakes taken (length piece.now) result }
     ensures memory { FedAsks run.old (take (limit - taken) piece.now) taken result }
     ensures counts { (j : Job) (b : List ℕ) (calls : ℕ) → j.bytes ≡ limit →
@@ -208,8 +208,8 @@ impl<'r, A: Allocator> Decoder<'r, A> {
         }
     }
 
-    /// Returns the number of bytes of texts and runs of bytes held, which is 0 after an error. Those
-    /// that came of an incomplete one count, without its length.
+    /// Returns the number of bytes of texts and runs of bytes held, which is 0 after an error.
+    /// Those that came of an incomplete one count, without its length.
     ///
     /// They are at most as many as were taken.
     pub fn text_bytes(&self) -> u64
@@ -228,8 +228,8 @@ impl<'r, A: Allocator> Decoder<'r, A> {
     /// Returns `More` if the next node needs another byte, and `Done` in the call that brings the
     /// value's last byte. Bytes after it are not used.
     ///
-    /// A decoder keeps its answer. After `Done` every call returns `Done` with no byte used; after an
-    /// error every call returns that error. These calls allocate nothing.
+    /// A decoder keeps its answer. After `Done` every call returns `Done` with no byte used; after
+    /// an error every call returns that error. These calls allocate nothing.
     ///
     /// # Errors
     ///
@@ -246,7 +246,7 @@ impl<'r, A: Allocator> Decoder<'r, A> {
         ensures calls { self.new.calls ≡ self.old.calls + 1 }
         ensures refused { (f : DecodeFault) → self.old.run ≡ Err f →
             (result ≡ Err f) × IsKept self.old self.new × (self.new.turns ≡ self.old.turns) }
-        ensures whole { (s : Running) → self.old.run ≡ Ok s → is_whole s.built ≡ true →
+        ensures whole { (s : Running) → self.old.run ≡ Ok s → is_complete s.built ≡ true →
             (result ≡ Ok (Progress.Done 0)) × IsKept self.old self.new }
         ensures taken { (self.old.taken ≤ self.new.taken)
             × (self.new.taken ≤ self.old.taken + length piece.now) }
@@ -287,11 +287,11 @@ impl<'r, A: Allocator> Decoder<'r, A> {
     ///
     /// # Errors
     ///
-    /// `Truncated` at the number of bytes fed if the value is incomplete, the same error again after
-    /// an error, and any error of `feed` on an empty piece. The decoder is dropped.
+    /// `Truncated` at the number of bytes fed if the value is incomplete, the same error again
+    /// after an error, and any error of `feed` on an empty piece. The decoder is dropped.
     pub fn finish(self) -> Result<Value<'r, A>, DecodeFault>
         ensures refused { (f : DecodeFault) → self.entry.run ≡ Err f → result ≡ Err f }
-        ensures whole { (s : Running) → self.entry.run ≡ Ok s → is_whole s.built ≡ true →
+        ensures whole { (s : Running) → self.entry.run ≡ Ok s → is_complete s.built ≡ true →
             result ≡ Ok (finished s.built) }
         ensures finishes { (b : List ℕ) → Led self.entry b →
             FinishesDecoder self.entry.job b result }

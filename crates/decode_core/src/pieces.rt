@@ -62,10 +62,10 @@ fn feed_pieces<A: Allocator>(
 /// Decodes a value of the root's type from the front of the joined pieces, and returns it with the
 /// number of its bytes. Bytes after it are not read.
 ///
-/// However the input is cut, the answer is the one to the joined bytes: the one value whose encoding
-/// is exactly the bytes taken, or the one error. The value has at most
-/// `1 + n * (depth + 1) * (widest + 1)` nodes and n bytes of texts and runs of bytes, where n is the
-/// number of bytes taken.
+/// However the input is cut, the answer is the one to the joined bytes: the one value whose
+/// encoding is exactly the bytes taken, or the one error. The value has at most `1 + n * (depth +
+/// 1) * (widest + 1)` nodes and n bytes of texts and runs of bytes, where n is the number of bytes
+/// taken.
 ///
 /// # Errors
 ///

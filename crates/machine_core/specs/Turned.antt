@@ -10,7 +10,7 @@ use Rattle.grammar_core.specs.declared.form.Next.TheVariants as next
 use Rattle.value_core.specs.Begun.{IsBegun}
 use Rattle.value_core.specs.Built.{next_layout}
 use Rattle.value_core.specs.Walked.{elements_after, next_of}
-use Rattle.value_core.specs.Refusals.{is_whole}
+use Rattle.value_core.specs.Refusals.{is_complete}
 use Rattle.grammar_core.specs.Reading.{Refusal, truncated}
 use Rattle.form_core.specs.declared.forms.BytesForm.{BytesForm}
 use Rattle.form_core.specs.declared.forms.BytesForm.TheVariants as bytes
@@ -105,7 +105,7 @@ abbrev pub EndsTurns : Running → List ℕ → Stopped → Type 0
 EndsTurns s rest stop.Finished =
     ((x : List ℕ) → remain (types_in s) (state_of s.built) x ≡ reported [] (Ok x))
     × (held_of s ≡ [])
-    × (is_whole s.built ≡ true)
+    × (is_complete s.built ≡ true)
 EndsTurns s rest stop.Wants = (rest ≡ []) × WantsBytes s
 EndsTurns s rest (stop.Refused held reported_reason at len) = let x = held_of s ++ rest in
     (e : Refusal) × (left : List ℕ) × (is_cut e ≡ false) × (reported_reason ≡ reason_of e)
@@ -215,7 +215,7 @@ StopCounts old new piece from to n s = FewTurns old new n from to
 pub record FeedTells (old new : Running) (piece : List ℕ) (from to : ℕ) (result : ℕ × Stopped)
     : Type 0 where
   pub reports : FeedReports old new piece result.0 result.1
-  pub whole : is_whole old.built ≡ true → (result ≡ (0, stop.Finished)) × (new ≡ old)
+  pub whole : is_complete old.built ≡ true → (result ≡ (0, stop.Finished)) × (new ≡ old)
   pub counts : StopCounts old new piece from to result.0 result.1
 
 -- what stands in the turns of a call: the bytes and turns so far, and what they led to
@@ -224,7 +224,7 @@ pub record CallSoFar (a b : Running) (piece : List ℕ) (at start from : ℕ) : 
   pub moves : Moves a b (take at piece)
   pub each : start + length b.built.entries ≤ from + length a.built.entries
   pub few : from + length a.built.entries ≤ start + at + length b.built.entries
-  pub whole : is_whole a.built ≡ true → (at ≡ 0) × (b ≡ a)
+  pub whole : is_complete a.built ≡ true → (at ≡ 0) × (b ≡ a)
 
 -- a value of this form is next, and no run is open
 pub record Awaits (s : Running) (f : Form) : Type 0 where
@@ -250,7 +250,7 @@ pub record TurnsReport (old new : Running) (piece : List ℕ) (from to n : ℕ) 
   pub sound : IsSound before
   pub reports : StepReports before new (drop n piece) last
   pub kept : KeepsTurns before new last
-  pub whole : is_whole old.built ≡ true →
+  pub whole : is_complete old.built ≡ true →
       (n ≡ 0) × (before ≡ old) × (last ≡ Err stop.Finished)
 
 -- the same of turns on nodes whose own bytes a piece may have whole
@@ -263,7 +263,7 @@ pub record WholeTurnsReport (old new : Running) (piece : List ℕ) (from to n : 
   pub few : FewTurns old before n from to
   pub sound : IsSound before
   pub reports : WholeReports before new (drop n piece) last
-  pub whole : is_whole old.built ≡ true → (n ≡ 0) × (before ≡ old) × (last ≡ tried.Untouched)
+  pub whole : is_complete old.built ≡ true → (n ≡ 0) × (before ≡ old) × (last ≡ tried.Untouched)
 
 -- what a turn did that took the next node's own bytes
 abbrev pub node_turned : Result (Unit {0}) NodeFault → ℕ → ℕ → ℕ → Turned

@@ -5,7 +5,7 @@ ghost use Rattle.std.specs.Prelude.{false, None, IfSome, IsSome, Ok};
 ghost use Rattle.machine_core.specs.Running.{IsCarry, IsFresh, IsRunNext};
 ghost use Rattle.value_core.specs.Walked.{next_of};
 ghost use Rattle.value_core.specs.Built.{finished, pieces_bytes};
-ghost use Rattle.value_core.specs.Refusals.{Lacks, is_whole};
+ghost use Rattle.value_core.specs.Refusals.{Lacks, is_complete};
 ghost use Rattle.grammar_core.specs.Runs.{run_form};
 ghost use Rattle.form_core.specs.Needs.{AreOwn, HasBytes, IsBare, IsNeeded};
 ghost use Rattle.form_core.specs.NodeForms.{form_of_bytes};
@@ -116,7 +116,7 @@ impl<'r, A: Allocator> Partial<'r, A> {
 
     /// Returns the value, which is complete. This allocates nothing.
     pub fn into_value(self) -> Value<'r, A>
-        requires { is_whole self.built ≡ true }
+        requires { is_complete self.built ≡ true }
         ensures { result ≡ finished self.entry.built }
     {
         self.builder.into_value()
@@ -310,7 +310,7 @@ impl<'r, A: Allocator> Partial<'r, A> {
         ensures reports { StepReports self.old self.new piece.now result }
         ensures kept { KeepsTurns self.old self.new result }
         ensures sound { IsSound self.old }
-        ensures whole { is_whole self.old.built ≡ true → result ≡ Err Stopped.Finished }
+        ensures whole { is_complete self.old.built ≡ true → result ≡ Err Stopped.Finished }
     {
         match self.builder.walk().next() {
             Next::Finished => Err(Stopped::Finished),
@@ -357,7 +357,7 @@ impl<'r, A: Allocator> Partial<'r, A> {
     #[inline(always)]
     pub fn is_finished(&self) -> bool
         ensures ends { result ≡ true → (rest : List ℕ) → EndsTurns self.now rest Stopped.Finished }
-        ensures whole { is_whole self.now.built ≡ true → result ≡ true }
+        ensures whole { is_complete self.now.built ≡ true → result ≡ true }
         ensures sound { result ≡ true → IsSound self.now }
     {
         matches!(self.builder.walk().next(), Next::Finished)

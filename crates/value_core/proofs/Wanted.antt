@@ -8,7 +8,8 @@ use Rattle.grammar_core.specs.declared.form.Form.{Form}
 use Rattle.grammar_core.specs.declared.form.Next.{Next}
 use Rattle.grammar_core.specs.declared.form.Next.TheVariants as next
 use Rattle.value_core.specs.Built.{Built, Pieces}
-use Rattle.value_core.specs.Refusals.{IsRunWhole, missing_bytes, missing_of, missing_text, of_bytes}
+use Rattle.value_core.specs.Refusals.{IsRunComplete, missing_bytes, missing_of, missing_text}
+use Rattle.value_core.specs.Refusals.{of_bytes}
 use Rattle.value_core.specs.Refusals.{of_text, while_closed, wanted_from, wanted_of}
 use Rattle.value_core.specs.Walked.{next_of}
 
@@ -34,7 +35,7 @@ pub wanted_closed : (b : Built) (g : Form) → wanted_of b ≡ Ok g → b.run �
 wanted_closed b g e = (by_next b.run (next_of b.walk) g e).1
 
 -- a run of bytes that lacks nothing is whole, and so is a text
-pub bytes_whole : (b : Built) → missing_bytes b ≡ Ok 0 → IsRunWhole b
+pub bytes_whole : (b : Built) → missing_bytes b ≡ Ok 0 → IsRunComplete b
 bytes_whole b e = by (missing_of b) refl e where
   of : (k : RunKind) (n : ℕ) → of_bytes k n ≡ Ok 0 → n ≡ 0
   of kind.Text n e = absurd cc
@@ -43,12 +44,12 @@ bytes_whole b e = by (missing_of b) refl e where
 
   by : (m : Result (RunKind × ℕ) BuildFault) → missing_of b ≡ m →
       ◌≡◌ {A = Result ℕ BuildFault} (elim m [ Ok x ↦ of_bytes x.0 x.1 | Err e ↦ Err e ]) (Ok 0) →
-      IsRunWhole b
+      IsRunComplete b
   by (Ok x) f e = (x.0, f ∙ ap (λ (n : ℕ). Ok (x.0, n)) (of x.0 x.1 e))
   by (Err fault) f e = absurd cc
 
 -- where a text is open and lacks no byte, the open run lacks nothing
-pub text_whole : (b : Built) → missing_text b ≡ Ok 0 → IsRunWhole b
+pub text_whole : (b : Built) → missing_text b ≡ Ok 0 → IsRunComplete b
 text_whole b e = by (missing_of b) refl e where
   of : (k : RunKind) (n : ℕ) → of_text k n ≡ Ok 0 → n ≡ 0
   of kind.Text n e = cc
@@ -57,6 +58,6 @@ text_whole b e = by (missing_of b) refl e where
 
   by : (m : Result (RunKind × ℕ) BuildFault) → missing_of b ≡ m →
       ◌≡◌ {A = Result ℕ BuildFault} (elim m [ Ok x ↦ of_text x.0 x.1 | Err e ↦ Err e ]) (Ok 0) →
-      IsRunWhole b
+      IsRunComplete b
   by (Ok x) f e = (x.0, f ∙ ap (λ (n : ℕ). Ok (x.0, n)) (of x.0 x.1 e))
   by (Err fault) f e = absurd cc

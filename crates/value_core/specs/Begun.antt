@@ -13,7 +13,7 @@ use Rattle.grammar_core.specs.declared.form.Next.{Next}
 use Rattle.grammar_core.specs.declared.form.Next.TheVariants as next
 use Rattle.value_core.specs.Walked.{Walked, next_type, next_of, depth_of}
 use Rattle.value_core.specs.Built.{Built, HasFewTurns, entries_text_bytes}
-use Rattle.value_core.specs.Refusals.{is_whole}
+use Rattle.value_core.specs.Refusals.{is_complete}
 
 -- the type that is next in a walk, with the levels that there is room for at it
 abbrev pub next_with_room : Walked → Option (ℕ × ℕ)
@@ -43,5 +43,5 @@ pub record IsBegun (b : Built) : Type 0 where
   pub text_bytes : entries_text_bytes b.entries ≡ begun_text_bytes tree
   pub answer : next_of b.walk ≡ next_in b.walk.types (next_with_room b.walk)
   pub depth : depth_of b.walk ≡ begun_depth tree
-  pub whole : is_whole b ≡ is_whole_tree tree
+  pub whole : is_complete b ≡ is_whole_tree tree
   pub turns : HasFewTurns b

@@ -201,8 +201,8 @@ abbrev pub missing_of : Built → Result (RunKind × ℕ) BuildFault
 missing_of b = missing_at b.run (next_of b.walk)
 
 -- the open run lacks nothing
-abbrev pub IsRunWhole : Built → Type 0
-IsRunWhole b = (k : RunKind) × (missing_of b ≡ Ok (k, 0))
+abbrev pub IsRunComplete : Built → Type 0
+IsRunComplete b = (k : RunKind) × (missing_of b ≡ Ok (k, 0))
 
 -- how many bytes the open run lacks, where it is a text, and where it is a run of bytes
 abbrev pub of_text : RunKind → ℕ → Result ℕ BuildFault
@@ -268,8 +268,8 @@ abbrev pub is_whole_in : List OpenPart → Bool
 is_whole_in (f ∷ []) = is_none (first_of f.left)
 is_whole_in _ = false
 
-abbrev pub is_whole : Built → Bool
-is_whole b = is_whole_in b.walk.frames
+abbrev pub is_complete : Built → Bool
+is_complete b = is_whole_in b.walk.frames
 
 -- the value, where nothing is missing, and else the builder as it was
 abbrev pub Finishes : Bool → Seen → Built → Result Seen (BuildFault × Built) → Type 0

@@ -16,7 +16,7 @@ use node_core::Leaf;
 use registry_core::{IntegerWidth, Primitive, PrimitiveKind};
 use std::alloc::Allocator;
 
-/// The greatest number of an unsigned integer of this width.
+/// Returns the greatest number of an unsigned integer of this width.
 fn most_unsigned(width: IntegerWidth) -> u128
     ensures { result ≡ most_unsigned width }
 {
@@ -29,14 +29,14 @@ fn most_unsigned(width: IntegerWidth) -> u128
     }
 }
 
-/// The greatest number of a signed integer of this width; the least is one further from 0.
+/// Returns the greatest number of a signed integer of this width; the least is one further from 0.
 fn most_signed(width: IntegerWidth) -> u128
     ensures { result ≡ most_signed width }
 {
     most_unsigned(width) / 2
 }
 
-/// Is the number one of a type with this greatest number, whose least is one further from 0?
+/// Returns whether a signed type with this greatest number has the number.
 fn is_within(value: i128, greatest: u128) -> bool
     ensures { result ≡ is_within value greatest }
 {
@@ -47,8 +47,13 @@ fn is_within(value: i128, greatest: u128) -> bool
 impl<'r, A: Allocator> Builder<'r, A> {
     /// Adds the one value of a type that takes no bytes.
     ///
-    /// Refuses, and leaves the builder as it was: what the next type stops at, `WrongKind` where another form is next or
-    /// nothing is, and `OutOfMemory`.
+    /// # Errors
+    ///
+    /// The first that applies; the builder is unchanged.
+    ///
+    /// - `TooDeep`, `NoFiniteValue`, `BitSequence` or `BadCompact` if the next type stops at it.
+    /// - `WrongKind` if another form is next, a run is open, or nothing is next.
+    /// - `OutOfMemory` if an allocation fails.
     #[tactic(auto, using(crate::proofs::Wanted::wanted_next, crate::proofs::Wanted::wanted_closed, crate::proofs::NextLeaf::empty_next))]
     pub fn empty(&mut self) -> Result<(), BuildFault>
         ensures { Adds (judged suits_empty self.old) (with_leaf self.old (head.leaf tree.unit))
@@ -62,7 +67,9 @@ impl<'r, A: Allocator> Builder<'r, A> {
 
     /// Adds a boolean.
     ///
-    /// Refuses as `empty` does.
+    /// # Errors
+    ///
+    /// Those of [`empty`](Self::empty).
     #[tactic(auto, using(crate::proofs::Wanted::wanted_next, crate::proofs::Wanted::wanted_closed, crate::proofs::NextLeaf::bool_next))]
     pub fn bool(&mut self, value: bool) -> Result<(), BuildFault>
         ensures { Adds (judged suits_bool self.old)
@@ -76,7 +83,10 @@ impl<'r, A: Allocator> Builder<'r, A> {
 
     /// Adds an unsigned integer of at most sixteen bytes.
     ///
-    /// Refuses as `empty` does, and with `OutOfRange` a number that is too great for the type.
+    /// # Errors
+    ///
+    /// Those of [`empty`](Self::empty), and `OutOfRange` if the number is above the range of the
+    /// type.
     #[tactic(auto, using(crate::proofs::Wanted::wanted_next, crate::proofs::Wanted::wanted_closed, crate::proofs::NextLeaf::unsigned_next))]
     pub fn unsigned(&mut self, value: u128) -> Result<(), BuildFault>
         ensures { Adds (judged (suits_unsigned value) self.old)
@@ -97,7 +107,9 @@ impl<'r, A: Allocator> Builder<'r, A> {
 
     /// Adds a sequence of elements that take no bytes: their count alone.
     ///
-    /// Refuses as `empty` does.
+    /// # Errors
+    ///
+    /// Those of [`empty`](Self::empty).
     #[tactic(auto, using(crate::proofs::Wanted::wanted_next, crate::proofs::Wanted::wanted_closed, crate::proofs::NextLeaf::count_next))]
     pub fn count(&mut self, count: u32) -> Result<(), BuildFault>
         ensures { Adds (judged suits_count self.old)
@@ -109,9 +121,11 @@ impl<'r, A: Allocator> Builder<'r, A> {
         }
     }
 
-    /// Adds a 256-bit integer by its 32 bytes, the lowest first.
+    /// Adds a 256-bit integer by its 32 bytes, in little-endian order.
     ///
-    /// Refuses as `empty` does.
+    /// # Errors
+    ///
+    /// Those of [`empty`](Self::empty).
     #[tactic(auto, using(crate::proofs::Wanted::wanted_next, crate::proofs::Wanted::wanted_closed, crate::proofs::NextLeaf::wide_next))]
     pub fn wide(&mut self, value: [u8; 32]) -> Result<(), BuildFault>
         ensures { Adds (judged suits_wide self.old)
@@ -128,7 +142,10 @@ impl<'r, A: Allocator> Builder<'r, A> {
 
     /// Adds a signed integer of at most sixteen bytes.
     ///
-    /// Refuses as `empty` does, and with `OutOfRange` a number that is too great or too small for the type.
+    /// # Errors
+    ///
+    /// Those of [`empty`](Self::empty), and `OutOfRange` if the number is outside the range of the
+    /// type.
     pub fn signed(&mut self, value: i128) -> Result<(), BuildFault>
         ensures { Adds (judged (suits_signed value) self.old)
             (with_leaf self.old (head.leaf (tree.signed value))) self.old self.new result }
@@ -148,7 +165,9 @@ impl<'r, A: Allocator> Builder<'r, A> {
 
     /// Adds a character.
     ///
-    /// Refuses as `empty` does.
+    /// # Errors
+    ///
+    /// Those of [`empty`](Self::empty).
     #[tactic(auto, using(crate::proofs::Wanted::wanted_next, crate::proofs::Wanted::wanted_closed, crate::proofs::NextLeaf::char_next))]
     pub fn char(&mut self, value: char) -> Result<(), BuildFault>
         ensures { Adds (judged suits_char self.old)
@@ -162,7 +181,10 @@ impl<'r, A: Allocator> Builder<'r, A> {
 
     /// Adds a compact integer.
     ///
-    /// Refuses as `empty` does, and with `OutOfRange` a number that is too great for what the compact wraps.
+    /// # Errors
+    ///
+    /// Those of [`empty`](Self::empty), and `OutOfRange` if the number is above the range of
+    /// what the compact wraps.
     #[tactic(auto, using(crate::proofs::Wanted::wanted_next, crate::proofs::Wanted::wanted_closed, crate::proofs::NextLeaf::compact_next))]
     pub fn compact(&mut self, value: u128) -> Result<(), BuildFault>
         ensures { Adds (judged (suits_compact value) self.old)
@@ -180,7 +202,9 @@ impl<'r, A: Allocator> Builder<'r, A> {
 
     /// Adds a composite or a tuple, whose fields or members come next.
     ///
-    /// Refuses as `empty` does.
+    /// # Errors
+    ///
+    /// Those of [`empty`](Self::empty).
     #[tactic(auto, using(crate::proofs::Wanted::wanted_next, crate::proofs::Wanted::wanted_closed))]
     pub fn fields(&mut self) -> Result<(), BuildFault>
         ensures { Adds (judged suits_fields self.old) (with_fields self.old) self.old
@@ -195,7 +219,9 @@ impl<'r, A: Allocator> Builder<'r, A> {
 
     /// Adds a variant by the index of its arm, whose fields come next.
     ///
-    /// Refuses as `empty` does, and with `NoSuchVariant` an index that no arm has.
+    /// # Errors
+    ///
+    /// Those of [`empty`](Self::empty), and `NoSuchVariant` if no arm has the index.
     #[tactic(auto, using(crate::proofs::Wanted::wanted_next, crate::proofs::Wanted::wanted_closed))]
     pub fn arm(&mut self, index: u8) -> Result<(), BuildFault>
         ensures { Adds (judged_arm self.old index) (with_arm self.old index) self.old
@@ -210,9 +236,12 @@ impl<'r, A: Allocator> Builder<'r, A> {
         Ok(())
     }
 
-    /// Adds an array, or a sequence of elements that take bytes; its elements come next. Those of u8 are added by `bytes`.
+    /// Adds an array, or a sequence of elements that take bytes; its elements come next. `bytes`
+    /// adds those of u8.
     ///
-    /// Refuses as `empty` does, and with `OutOfRange` a count that is not the array's length.
+    /// # Errors
+    ///
+    /// Those of [`empty`](Self::empty), and `OutOfRange` if `count` is not the array's length.
     #[tactic(auto, using(crate::proofs::Wanted::wanted_next, crate::proofs::Wanted::wanted_closed))]
     pub fn list(&mut self, count: u32) -> Result<(), BuildFault>
         ensures { Adds (judged (suits_list count) self.old) (with_list self.old count) self.old

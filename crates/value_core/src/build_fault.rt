@@ -1,4 +1,4 @@
-//! Why a builder refuses.
+//! Why a builder rejects a call.
 
 ghost use Rattle.std.specs.Prelude.{◌≡◌};
 ghost use Rattle.value_core.specs.Refusals.{build_fault_of};
@@ -6,8 +6,8 @@ ghost use Rattle.value_core.specs.Refusals.{build_fault_of};
 use grammar_core::StopReason;
 use std::alloc::AllocError;
 
-/// Why a builder refuses a call; the builder stays as it was. Of several reasons an adding call reports the first of
-/// this list, and `new` an unknown type before a depth limit outside its range.
+/// Why a builder rejects a call, which changes nothing. If several apply, an adding call reports
+/// the first of this list, and `new` an unknown type before a depth limit outside its range.
 #[derive(Clone, Copy, Debug, PartialEq, Eq)]
 pub enum BuildFault {
     /// The next node would stand deeper than the limit.
@@ -24,16 +24,16 @@ pub enum BuildFault {
     OutOfRange,
     /// No arm has the index.
     NoSuchVariant,
-    /// The id is no position of the registry.
+    /// The registry has no type of the id.
     UnknownType,
     /// A node is still missing.
     UnfinishedValue,
-    /// The bytes of a text are not UTF-8: how long their longest valid front is.
+    /// The bytes of a text are not UTF-8.
     BadText {
         /// The length of the longest valid front, in bytes.
         valid: u64,
     },
-    /// Memory was refused.
+    /// An allocation failed.
     OutOfMemory,
 }
 

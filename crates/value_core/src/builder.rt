@@ -3,7 +3,7 @@
 ghost use Rattle.std.specs.Prelude.{◌≡◌, [], length, None};
 ghost use Rattle.value_core.specs.Begun.{IsBegun};
 ghost use Rattle.value_core.specs.Built.{built_text_bytes, finished};
-ghost use Rattle.value_core.specs.Refusals.{Finishes, Opens, build_opening_fault, is_whole};
+ghost use Rattle.value_core.specs.Refusals.{Finishes, Opens, build_opening_fault, is_complete};
 ghost use Rattle.value_core.specs.Refusals.{missing_of, other_fault, wanted_of};
 ghost use Rattle.value_core.specs.Walked.{start_of};
 
@@ -86,9 +86,9 @@ impl<'r, A: Allocator> Builder<'r, A> {
     ///
     /// `UnfinishedValue` and the builder, unchanged, if a node is missing.
     pub fn finish(self) -> Result<Value<'r, A>, (BuildFault, Builder<'r, A>)>
-        ensures { Finishes (is_whole self.entry) (finished self.entry) self.entry result }
+        ensures { Finishes (is_complete self.entry) (finished self.entry) self.entry result }
     {
-        if !self.walk().is_whole() {
+        if !self.walk().is_complete() {
             return Err((BuildFault::UnfinishedValue, self));
         }
         Ok(self.raw.into_value())

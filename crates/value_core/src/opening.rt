@@ -101,7 +101,8 @@ impl<'r, A: Allocator> RawBuilder<'r, A> {
         Ok(true)
     }
 
-    /// Adds an array of `count` elements, or a sequence of as many that take bytes; it must be next.
+    /// Adds an array of `count` elements, or a sequence of as many that take bytes; it must be
+    /// next.
     ///
     /// # Errors
     ///

@@ -6,7 +6,8 @@ ghost use Rattle.grammar_core.specs.Runs.{run_form};
 ghost use Rattle.value_core.specs.Begun.{IsBegun};
 ghost use Rattle.value_core.specs.Built.{built_text_bytes, finished, with_piece, with_run_closed};
 ghost use Rattle.value_core.specs.Built.{with_run_opened, FitsKind};
-ghost use Rattle.value_core.specs.Refusals.{IsRunWhole, Lacks, bad_text, is_whole, missing_of};
+ghost use Rattle.value_core.specs.Refusals.{IsRunComplete, Lacks, bad_text, is_complete};
+ghost use Rattle.value_core.specs.Refusals.{missing_of};
 ghost use Rattle.value_core.specs.Walked.{next_of, start_of};
 
 use crate::appending::{append_node, close_complete};
@@ -96,7 +97,7 @@ impl<'r, A: Allocator + Clone> RawBuilder<'r, A> {
 impl<'r, A: Allocator> RawBuilder<'r, A> {
     /// Returns the value, of which no node may be missing. It allocates nothing.
     pub fn into_value(self) -> Value<'r, A>
-        requires { is_whole self ≡ true }
+        requires { is_complete self ≡ true }
         ensures { result ≡ finished self.entry }
     {
         Value::new(self.walk.checked(), self.nodes, self.pool, self.text_len)
@@ -228,7 +229,7 @@ impl<'r, A: Allocator> RawBuilder<'r, A> {
     ///
     /// Returns `AllocError` if an allocation fails; the builder is unchanged.
     pub fn close_run(&mut self) -> Result<(), AllocError>
-        requires whole { IfSome self.old.run (λ run. IsRunWhole self.old) }
+        requires whole { IfSome self.old.run (λ run. IsRunComplete self.old) }
         requires valid { bad_text self.old.run ≡ None }
         ensures ok { OnOk result (self.new ≡ with_run_closed self.old) }
         ensures err { OnErr result (self.new ≡ self.old) }

@@ -5,7 +5,7 @@ ghost use Rattle.grammar_core.specs.Preorder as head;
 ghost use Rattle.grammar_core.specs.Tree as tree;
 ghost use Rattle.value_core.specs.Built.{with_bytes_opened, with_leaf, with_piece, with_run_ended};
 ghost use Rattle.value_core.specs.Built.{with_run_opened};
-ghost use Rattle.value_core.specs.Refusals.{Adds, IsRunWhole, judged, judged_end, judged_piece};
+ghost use Rattle.value_core.specs.Refusals.{Adds, IsRunComplete, judged, judged_end, judged_piece};
 ghost use Rattle.value_core.specs.Refusals.{missing_bytes, missing_text, run_fault, suits_bytes};
 ghost use Rattle.value_core.specs.Refusals.{suits_bytes_start, suits_text, suits_text_start};
 
@@ -19,7 +19,10 @@ use std::alloc::Allocator;
 impl<'r, A: Allocator> Builder<'r, A> {
     /// Adds a text.
     ///
-    /// Refuses as `empty` does, and with `OutOfRange` a text of more than 4294967295 bytes.
+    /// # Errors
+    ///
+    /// Those of [`empty`](Self::empty), and `OutOfRange` if the text has more than 4294967295
+    /// bytes.
     #[tactic(auto, using(crate::proofs::Wanted::wanted_next, crate::proofs::Wanted::wanted_closed, crate::proofs::NextLeaf::text_next))]
     pub fn text(&mut self, text: &str) -> Result<(), BuildFault>
         ensures { Adds (judged (suits_text text.now) self.old)
@@ -37,8 +40,10 @@ impl<'r, A: Allocator> Builder<'r, A> {
 
     /// Adds a sequence or an array of u8: its bytes.
     ///
-    /// Refuses as `empty` does, and with `OutOfRange` more than 4294967295 bytes for a sequence, and for an array another
-    /// number of bytes than its length.
+    /// # Errors
+    ///
+    /// Those of [`empty`](Self::empty), and `OutOfRange` if a sequence gets more than 4294967295
+    /// bytes or an array another number than its length.
     #[tactic(auto, using(crate::proofs::Wanted::wanted_next, crate::proofs::Wanted::wanted_closed))]
     pub fn bytes(&mut self, bytes: &[u8]) -> Result<(), BuildFault>
         ensures { Adds (judged (suits_bytes bytes.now) self.old)
@@ -56,10 +61,12 @@ impl<'r, A: Allocator> Builder<'r, A> {
         Ok(())
     }
 
-    /// Begins a text of so many bytes, which come in pieces. Until `text_end` takes them, every call that adds a whole
-    /// node is refused, and so are the calls for bytes.
+    /// Begins a text of `len` bytes, which come in pieces. Until `text_end`, every call that adds a
+    /// complete node is rejected, and so are the calls for bytes.
     ///
-    /// Refuses as `empty` does.
+    /// # Errors
+    ///
+    /// Those of [`empty`](Self::empty).
     pub fn text_start(&mut self, len: u32) -> Result<(), BuildFault>
         ensures { Adds (judged suits_text_start self.old)
             (with_run_opened self.old RunKind.Text len) self.old self.new result }
@@ -71,10 +78,16 @@ impl<'r, A: Allocator> Builder<'r, A> {
         Ok(())
     }
 
-    /// Adds bytes to the text that is open; they may end inside a character.
+    /// Appends bytes to the open text. They may end inside a character.
     ///
-    /// Refuses, and leaves the builder as it was: what the next type stops at, `WrongKind` where no text is open,
-    /// `OutOfRange` where more bytes came than the text is to have, and `OutOfMemory`.
+    /// # Errors
+    ///
+    /// The first that applies; the builder is unchanged.
+    ///
+    /// - What the next type stops at, as `empty` reports it.
+    /// - `WrongKind` if no text is open.
+    /// - `OutOfRange` if the text would have more bytes than `text_start` was given.
+    /// - `OutOfMemory` if an allocation fails.
     pub fn text_piece(&mut self, piece: &[u8]) -> Result<(), BuildFault>
         ensures { Adds (judged_piece (missing_text self.old) piece.now)
             (with_piece self.old piece.now) self.old self.new result }
@@ -86,10 +99,17 @@ impl<'r, A: Allocator> Builder<'r, A> {
         Ok(())
     }
 
-    /// Ends the text that is open, which is the next node then.
+    /// Ends the open text, and adds it as the next node.
     ///
-    /// Refuses, and leaves the builder as it was: what the next type stops at, `WrongKind` where no text is open,
-    /// `UnfinishedValue` where bytes of it are missing, `BadText` where its bytes are not UTF-8, and `OutOfMemory`.
+    /// # Errors
+    ///
+    /// The first that applies; the builder is unchanged.
+    ///
+    /// - What the next type stops at, as `empty` reports it.
+    /// - `WrongKind` if no text is open.
+    /// - `UnfinishedValue` if bytes of it are missing.
+    /// - `BadText` if its bytes are not UTF-8.
+    /// - `OutOfMemory` if an allocation fails.
     pub fn text_end(&mut self) -> Result<(), BuildFault>
         ensures { Adds (judged_end (missing_text self.old) self.old)
             (with_run_ended self.old) self.old self.new result }
@@ -100,10 +120,12 @@ impl<'r, A: Allocator> Builder<'r, A> {
         self.end_run()
     }
 
-    /// Begins a sequence or an array of u8 of so many bytes, which come in pieces. Until `bytes_end` takes them, every
-    /// call that adds a whole node is refused, and so are the calls for texts.
+    /// Begins a sequence or an array of u8 of `len` bytes, which come in pieces. Until `bytes_end`,
+    /// every call that adds a complete node is rejected, and so are the calls for texts.
     ///
-    /// Refuses as `empty` does, and with `OutOfRange` a number that is not the array's length.
+    /// # Errors
+    ///
+    /// Those of [`empty`](Self::empty), and `OutOfRange` if `len` is not the array's length.
     pub fn bytes_start(&mut self, len: u32) -> Result<(), BuildFault>
         ensures { Adds (judged (suits_bytes_start len) self.old) (with_bytes_opened self.old len)
             self.old self.new result }
@@ -118,10 +140,16 @@ impl<'r, A: Allocator> Builder<'r, A> {
         Ok(())
     }
 
-    /// Adds bytes to the run of bytes that is open.
+    /// Appends bytes to the open run of bytes.
     ///
-    /// Refuses, and leaves the builder as it was: what the next type stops at, `WrongKind` where no run of bytes is open,
-    /// `OutOfRange` where more bytes came than it is to have, and `OutOfMemory`.
+    /// # Errors
+    ///
+    /// The first that applies; the builder is unchanged.
+    ///
+    /// - What the next type stops at, as `empty` reports it.
+    /// - `WrongKind` if no run of bytes is open.
+    /// - `OutOfRange` if the run would have more bytes than `bytes_start` was given.
+    /// - `OutOfMemory` if an allocation fails.
     pub fn bytes_piece(&mut self, piece: &[u8]) -> Result<(), BuildFault>
         ensures { Adds (judged_piece (missing_bytes self.old) piece.now)
             (with_piece self.old piece.now) self.old self.new result }
@@ -133,10 +161,16 @@ impl<'r, A: Allocator> Builder<'r, A> {
         Ok(())
     }
 
-    /// Ends the run of bytes that is open, which is the next node then.
+    /// Ends the open run of bytes, and adds it as the next node.
     ///
-    /// Refuses, and leaves the builder as it was: what the next type stops at, `WrongKind` where no run of bytes is open,
-    /// `UnfinishedValue` where bytes of it are missing, and `OutOfMemory`.
+    /// # Errors
+    ///
+    /// The first that applies; the builder is unchanged.
+    ///
+    /// - What the next type stops at, as `empty` reports it.
+    /// - `WrongKind` if no run of bytes is open.
+    /// - `UnfinishedValue` if bytes of it are missing.
+    /// - `OutOfMemory` if an allocation fails.
     pub fn bytes_end(&mut self) -> Result<(), BuildFault>
         ensures { Adds (judged_end (missing_bytes self.old) self.old)
             (with_run_ended self.old) self.old self.new result }
@@ -147,8 +181,11 @@ impl<'r, A: Allocator> Builder<'r, A> {
         self.end_run()
     }
 
-    /// How many bytes the open text still lacks; refused with what the walk stops at, and with `WrongKind` where no text
-    /// is open.
+    /// Returns how many bytes the open text lacks.
+    ///
+    /// # Errors
+    ///
+    /// What the walk stops at, and `WrongKind` if no text is open.
     fn missing_text(&self) -> Result<usize, BuildFault>
         ensures { result ≡ missing_text self.now }
     {
@@ -158,8 +195,11 @@ impl<'r, A: Allocator> Builder<'r, A> {
         }
     }
 
-    /// How many bytes the open run of bytes still lacks; refused with what the walk stops at, and with `WrongKind` where
-    /// none is open.
+    /// Returns how many bytes the open run of bytes lacks.
+    ///
+    /// # Errors
+    ///
+    /// What the walk stops at, and `WrongKind` if none is open.
     fn missing_bytes(&self) -> Result<usize, BuildFault>
         ensures { result ≡ missing_bytes self.now }
     {
@@ -169,9 +209,13 @@ impl<'r, A: Allocator> Builder<'r, A> {
         }
     }
 
-    /// Ends the open run, which lacks nothing: refused where it is a text that is not UTF-8, and with want of memory.
+    /// Ends the open run, which lacks nothing.
+    ///
+    /// # Errors
+    ///
+    /// `BadText` if it is a text that is not UTF-8, and `OutOfMemory` if an allocation fails.
     fn end_run(&mut self) -> Result<(), BuildFault>
-        requires { IsRunWhole self.old }
+        requires { IsRunComplete self.old }
         ensures { Adds (run_fault self.old.run) (with_run_ended self.old) self.old self.new result }
     {
         match self.raw.bad_text() {

@@ -1,4 +1,4 @@
-//! The place in a value that comes next, and what is wanted there: the one thing that says it.
+//! Where a value goes on, and what must come there.
 
 ghost use Rattle.std.specs.Prelude.{◌≡◌, ◌⊎◌, ◌+◌, ◌≤◌, ◌++◌, [], ◌∷◌, length, is_none, vec_len};
 ghost use Rattle.std.specs.Prelude.{option_map, IfSome, IfNone, IsSome, OnOk, OnErr, vec_capacity};
@@ -20,7 +20,7 @@ use std::alloc::{AllocError, Allocator};
 use std::marker::Model;
 use widths_core::{Checked, TypeStep};
 
-/// The step of a type in the table of the registry. A type that is no position has no value.
+/// Returns the step of a type in the registry's table. A type that the registry lacks has no value.
 #[inline(always)]
 fn step_of(checked: &Checked, ty: TypeId) -> TypeStep
     ensures { IsStepOf checked.now.types ty.0 result }
@@ -28,7 +28,7 @@ fn step_of(checked: &Checked, ty: TypeId) -> TypeStep
     checked.step(ty).unwrap_or(TypeStep::NoValue)
 }
 
-/// Finds the type that is next in an open node. Where none is, `ty` stays as it was.
+/// Sets `ty` to the type that is next in an open node, if there is one.
 #[inline(always)]
 fn look_ahead(checked: &Checked, left: &Remaining, ty: &mut TypeId)
     requires { IsWithin (references_of checked.now.types) left.now }
@@ -39,7 +39,7 @@ fn look_ahead(checked: &Checked, left: &Remaining, ty: &mut TypeId)
     }
 }
 
-/// The parts of a composite or a tuple of this step; a type of another kind has no such parts.
+/// Returns the parts of a composite or a tuple of this step, and none for another kind of type.
 fn members_in(step: TypeStep) -> Remaining
     ensures { result ≡ members_in step }
 {
@@ -49,7 +49,7 @@ fn members_in(step: TypeStep) -> Remaining
     }
 }
 
-/// So many elements of an array or a sequence of this step; a type of another kind has no elements.
+/// Returns `length` elements of an array or a sequence of this step, and none for another kind.
 fn elements_in(step: TypeStep, length: u32) -> Remaining
     ensures { result ≡ elements_in step length }
 {
@@ -78,17 +78,17 @@ fn expected_of(frame: Option<&Frame>, nodes: &[Node]) -> usize {
     frame.map_or(0, |frame| frame.expected(nodes))
 }
 
-/// A walk through a value of a type, node by node in the order of their bytes (SCALE codec, "Types": parts stand one
-/// after the other, after the index or the length that says which and how many they are).
-///
-/// It keeps the innermost node that is open and those around it, at most as many as the depth limit and two, and the
-/// type that is next, which is looked up once, when the walk comes to it. Its step is read where it is asked for.
+/// A walk through a value of a type, node by node in the order of their bytes (SCALE codec,
+/// "Types": parts stand one after the other, after the index or the length that says which and how
+/// many).
+// It keeps the innermost open node and those around it, at most two more than the depth limit, and
+// the next type, which is looked up once, when the walk comes to it.
 #[derive(Drop)]
 pub struct Walk<'r, A: Allocator> {
     checked: &'r Checked,
     top: Frame,
     around: GrowVec<Frame, A>,
-    /// The type that was looked up last: the next one, where any is left in the innermost node.
+    /// The type that was looked up last: the next one, if one is left in the innermost node.
     ty: TypeId,
     limit: usize,
 }
@@ -117,7 +117,7 @@ impl<'r, A: Allocator> Model for Walk<'r, A> {
 }
 
 impl<'r, A: Allocator> Walk<'r, A> {
-    /// The walk through a value of the root's type, of which nothing is there yet.
+    /// Creates a walk through a value of the type `root`, at its start.
     pub(crate) fn new(alloc: A, checked: &'r Checked, root: TypeId, limit: u16) -> Walk<'r, A>
         requires { limit ≤ MAX_DEPTH }
         ensures { result ≡ start_of checked.now.types root.0 limit }
@@ -132,11 +132,12 @@ impl<'r, A: Allocator> Walk<'r, A> {
         }
     }
 
-    /// What comes next in the value: nothing where it is whole, the reason where no value can be read there, or the
-    /// form of the value that is wanted (SCALE codec, "Types").
+    /// Returns what comes next: nothing if the value is complete, the form of the next node, or why
+    /// there can be none (SCALE codec, "Types").
     ///
-    /// Of several reasons the first is reported: a depth above the limit, a type without a finite value, a bit sequence, a
-    /// compact that wraps no unsigned integer. It takes one look-up and no memory, and changes nothing.
+    /// If several reasons apply, it is the first of: a depth above the limit, a type without a
+    /// finite value, a bit sequence, a compact that wraps no unsigned integer. It allocates
+    /// nothing.
     #[inline(always)]
     pub fn next(&self) -> Next
         ensures { result ≡ next_of self.now }
@@ -150,8 +151,8 @@ impl<'r, A: Allocator> Walk<'r, A> {
         next_of_step(self.step())
     }
 
-    /// The depth of the node that comes next: 0 for the root, and one more than that of the node it is part of for any
-    /// other; 0 where nothing is next. It is at most one above the depth limit.
+    /// Returns the depth of the next node: 0 for the root, and one more than that of the node
+    /// around it for any other; 0 if nothing is next. It is at most one above the depth limit.
     pub fn depth(&self) -> u16
         ensures depth { result ≡ depth_of self.now }
         ensures bounded { IsBounded self.now }
@@ -163,7 +164,7 @@ impl<'r, A: Allocator> Walk<'r, A> {
         }
     }
 
-    /// Is nothing next in the innermost node that is open?
+    /// Returns whether nothing is next in the innermost open node.
     #[inline(always)]
     pub(crate) fn is_finished(&self) -> bool
         ensures { result ≡ is_none (next_type self.now) }
@@ -171,14 +172,14 @@ impl<'r, A: Allocator> Walk<'r, A> {
         self.top.left.is_empty()
     }
 
-    /// Is nothing left, and no node open?
-    pub(crate) fn is_whole(&self) -> bool
+    /// Returns whether nothing is left and no node is open.
+    pub(crate) fn is_complete(&self) -> bool
         ensures { result ≡ is_whole_in self.now.frames }
     {
         self.around.is_empty() && self.is_finished()
     }
 
-    /// The next node is there: it is no longer left in the innermost part.
+    /// Passes the next node, which is there.
     #[inline(always)]
     pub(crate) fn advance(&mut self)
         requires { IsSome (next_type self.old) }
@@ -190,8 +191,8 @@ impl<'r, A: Allocator> Walk<'r, A> {
         }
     }
 
-    /// Is the innermost open node a list, or none open, as before the first node and after the last? Only then may an element
-    /// follow the next one.
+    /// Returns whether the innermost open node is a list, or no node is open. Only then may an
+    /// element follow the next one.
     #[inline(always)]
     pub fn is_in_list(&self) -> bool
         ensures { result ≡ is_list_in self.now.frames }
@@ -199,9 +200,10 @@ impl<'r, A: Allocator> Walk<'r, A> {
         self.top.left.have_one_type()
     }
 
-    /// How many elements follow the next one in the innermost open list; 0 where another node is the innermost.
-    // It is asked once for a list. Inlined, it would be worked out for each field beside `is_in_list`, which is all that is
-    // asked of most nodes.
+    /// Returns how many elements follow the next one in the innermost open list; 0 if the innermost
+    /// open node is no list.
+    // It is asked once for a list. Inlined, it would be computed for each field beside
+    // `is_in_list`.
     #[inline(never)]
     pub fn elements_after(&self) -> u32
         ensures { result ≡ elements_after self.now }
@@ -209,7 +211,7 @@ impl<'r, A: Allocator> Walk<'r, A> {
         self.top.left.after_first()
     }
 
-    /// The next element of a list is there, and another follows, which is of the same type: nothing is looked up.
+    /// Passes the next element of a list, which another follows; the type stays.
     #[inline(always)]
     pub(crate) fn pass_element(&mut self)
         requires { 1 ≤ elements_after self.old }
@@ -218,7 +220,7 @@ impl<'r, A: Allocator> Walk<'r, A> {
         self.top.left.advance();
     }
 
-    /// The next node is open, and its parts come next. Where memory is refused, nothing changes.
+    /// Opens the next node, whose parts come next. If the allocation fails, nothing changes.
     #[inline(always)]
     pub(crate) fn enter(&mut self, node: usize, left: Remaining) -> Result<(), AllocError>
         requires next { IsSome (next_type self.old) }
@@ -238,8 +240,8 @@ impl<'r, A: Allocator> Walk<'r, A> {
         Ok(())
     }
 
-    /// The innermost node is whole, and closed: its place among the nodes. There is none where one of its parts is
-    /// still to come, and where the innermost part is the root's own; nothing changes then.
+    /// Closes the innermost node if it is complete, and returns its position among the nodes. If
+    /// one of its parts is missing, or no node is open, it returns `None` and changes nothing.
     #[inline(always)]
     pub(crate) fn close(&mut self) -> Option<usize>
         ensures some { IfSome result (λ node. Closes self.old self.new node) }
@@ -256,8 +258,12 @@ impl<'r, A: Allocator> Walk<'r, A> {
         Some(node)
     }
 
-    /// Reserves capacity for one more node and for those that the innermost and outermost open lists are expected to bring,
-    /// and for their bytes. It returns `AllocError` if an allocation fails; nothing that is there changes.
+    /// Reserves capacity for one more node and for those that the innermost and outermost open
+    /// lists are expected to bring, and for their bytes.
+    ///
+    /// # Errors
+    ///
+    /// `AllocError` if the allocation for one node fails; nothing that is there changes.
     #[cold]
     #[inline(never)]
     pub(crate) fn make_room(
@@ -287,14 +293,14 @@ impl<'r, A: Allocator> Walk<'r, A> {
         nodes.make_room(1, Some(expected.max(len / 8)))
     }
 
-    /// The registry that the types are of, lent as long as it is lent to the walk.
+    /// Returns the registry of the types.
     pub(crate) fn checked(&self) -> &'r Checked
         ensures { result.now.types ≡ self.now.types }
     {
         self.checked
     }
 
-    /// The type of the node that comes next, where one does.
+    /// Returns the type of the next node, if there is one.
     #[inline(always)]
     pub(crate) fn ty(&self) -> TypeId
         ensures { IfSome (next_type self.now) (λ t. result.0 ≡ t) }
@@ -302,7 +308,7 @@ impl<'r, A: Allocator> Walk<'r, A> {
         self.ty
     }
 
-    /// Its step, where one comes next: one look-up.
+    /// Returns the step of the next node, if there is one: one look-up.
     #[inline(always)]
     fn step(&self) -> TypeStep
         ensures { IfSome (next_type self.now) (λ t. IsStepOf self.now.types t result) }
@@ -310,7 +316,7 @@ impl<'r, A: Allocator> Walk<'r, A> {
         step_of(self.checked, self.ty)
     }
 
-    /// A value of each field or member of the next type.
+    /// Returns a value of each field or member of the next type.
     pub(crate) fn fields(&self) -> Remaining
         requires { next_of self.now ≡ Next.Wants Form.Fields }
         ensures opens { OpensFields self.now (left_of self.now.types result) }
@@ -320,8 +326,8 @@ impl<'r, A: Allocator> Walk<'r, A> {
         members_in(self.step())
     }
 
-    /// The one part of the next type, a composite or a tuple, where it has one that is an array of u8 and that the depth limit lets
-    /// in: its type, and how many bytes it has.
+    /// If the next type is a composite or a tuple of one part, an array of u8 within the depth
+    /// limit, returns the part's type and its length in bytes.
     #[inline(always)]
     pub(crate) fn wrapped_array(&self) -> Option<(TypeId, u32)>
         requires { next_of self.now ≡ Next.Wants Form.Fields }
@@ -338,8 +344,8 @@ impl<'r, A: Allocator> Walk<'r, A> {
         }
     }
 
-    /// The first arm of the index in the next type, by its position, and a value of each of its fields. There is none
-    /// where the next type has no arm of the index.
+    /// Returns the position of the first arm of the index in the next type and a value of each of
+    /// its fields, or `None` if there is no such arm.
     pub(crate) fn arm(&self, index: u8) -> Option<(u32, Remaining)>
         requires { next_of self.now ≡ Next.Wants Form.Arm }
         ensures opens { OpensArm self.now index
@@ -352,7 +358,7 @@ impl<'r, A: Allocator> Walk<'r, A> {
         Some((arm.position, Remaining::members(arm.from, arm.count)))
     }
 
-    /// So many elements of the next type, which is an array of this length or a sequence.
+    /// Returns `length` elements of the next type, which is an array of this length or a sequence.
     pub(crate) fn elements(&self, length: u32) -> Remaining
         requires { IsListNext self.now length }
         ensures opens { OpensElements self.now length (left_of self.now.types result) }

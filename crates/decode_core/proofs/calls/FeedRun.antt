@@ -9,7 +9,7 @@ use Rattle.grammar_core.specs.Reading.{Refusal, basic}
 use Rattle.decode_core.specs.Decoding.{HoldsOf, IsDone, IsEnded, IsGoing, RunLed}
 use Rattle.machine_core.specs.Reasons.{reason_of}
 use Rattle.machine_core.specs.Outcome.{Job, more, IsOutcome}
-use Rattle.value_core.specs.Refusals.{is_whole}
+use Rattle.value_core.specs.Refusals.{is_complete}
 use Rattle.machine_core.specs.Running.{Running, held_of}
 use Rattle.machine_core.specs.Turned.{FeedReports, RunsOut, EndsTurns}
 use Rattle.machine_core.specs.declared.reason.DecodeReason.{DecodeReason}
@@ -111,9 +111,9 @@ stops_otherwise r whole is =
 -- turns that end for want of memory end the decoder so, if its value was not whole
 pub run_short : (j : Job) (b piece slice : List ℕ) (s : Running) (limit taken k : ℕ) →
     j.bytes ≡ limit → slice ≡ take (limit - taken) piece → RunLed j b taken (Ok s) →
-    (is_whole s.built ≡ true → ⊥) → RunsOut s slice k →
+    (is_complete s.built ≡ true → ⊥) → RunsOut s slice k →
     IsEnded j (b ++ piece) (record { reason = reason.OutOfMemory; at = 0 }) (taken + k)
-run_short j b piece slice s limit taken k e is (inr g) going f = absurd (going g.is_whole)
+run_short j b piece slice s limit taken k e is (inr g) going f = absurd (going g.is_complete)
 run_short j b piece slice s limit taken k e is (inl g) going f =
     let same : slice ≡ offered j taken piece = is
     ∙ ap (λ (l : ℕ). take (l - taken) piece) (sym e) in

@@ -95,7 +95,7 @@ done_again j b piece s last n k g le m st sound =
       same = of;
       whole = reports;
       nothing = st.1;
-      is_whole = st.2;
+      is_complete = st.2;
       sound = sound;
       outcome = subst (λ (c : ℕ). IsOutcome j (b ++ piece) (done (built_tree last.built)) c) count
           (subst (λ v. IsOutcome j (b ++ piece) (done v) n) tree kept);

@@ -82,7 +82,7 @@ pub done_small : (j : Job) (b : List ℕ) (n : ℕ) (s : Running) → IsDone j b
     × (built_text_bytes s.built ≤ n)
 done_small j b n s h =
     let begun = h.sound.begun in
-    let count = whole_counts begun.tree (shown s.built.entries) (sym begun.whole ∙ h.is_whole)
+    let count = whole_counts begun.tree (shown s.built.entries) (sym begun.whole ∙ h.is_complete)
     begun.shows in
     let few = (held_is_bounded j b n).0 (built_tree s.built) h.outcome in (
       omega (arith, begun.nodes, count.0, few.0),
@@ -95,7 +95,7 @@ pub done_counts : (j : Job) (b : List ℕ) (n : ℕ) (s : Running) → IsDone j 
     × (built_text_bytes s.built ≡ text_bytes (built_tree s.built))
 done_counts j b n s h =
     let begun = h.sound.begun in
-    let count = whole_counts begun.tree (shown s.built.entries) (sym begun.whole ∙ h.is_whole)
+    let count = whole_counts begun.tree (shown s.built.entries) (sym begun.whole ∙ h.is_complete)
     begun.shows in (
       omega (arith, begun.nodes, count.0),
       omega (arith, begun.text_bytes, count.1, pieces_held s, ap length h.nothing),

@@ -5,7 +5,7 @@ use Rattle.std.proofs.lemmas.List.{drop_all, length-take, take_rest}
 use Rattle.std.proofs.Math.Seq.{take-add}
 use Rattle.std.specs.Prelude.{Err, Ok, true}
 use Rattle.grammar_core.specs.declared.form.Form.{Form}
-use Rattle.value_core.specs.Refusals.{is_whole}
+use Rattle.value_core.specs.Refusals.{is_complete}
 use Rattle.machine_core.specs.Running.{Running}
 use Rattle.machine_core.specs.Turned.{Awaits, CallSoFar, FeedReports, FeedTells, FewTurns}
 use Rattle.machine_core.specs.Turned.{IsReady, IsSound, KeepsTurns, Moves, StepReports}
@@ -63,7 +63,8 @@ whole_more a b d f piece at start from to last s is first reports =
 
 -- one turn, and no other before it
 pub one_turn : (a d : Running) (piece : List ℕ) (from to : ℕ) (last : Tried) → to ≡ from + 1 →
-    IsSound a → WholeReports a d piece last → (is_whole a.built ≡ true → last ≡ tried.Untouched) →
+    IsSound a → WholeReports a d piece last →
+    (is_complete a.built ≡ true → last ≡ tried.Untouched) →
     WholeTurnsReport a d piece from to 0 last
 one_turn a d piece from to last is sound reports left = record {
   before = a;
@@ -93,7 +94,7 @@ whole_of b d piece at from to n last is e k =
 -- turns on whole nodes, and what the turn after them reports, are the turns of a call
 turns_with : (b x d : Running) (piece : List ℕ) (from to n : ℕ) (read : Tried) (last : Turned)
     (w : WholeTurnsReport b x piece from to n read) → StepReports w.before d (drop n piece) last →
-    KeepsTurns w.before d last → (is_whole b.built ≡ true →
+    KeepsTurns w.before d last → (is_complete b.built ≡ true →
     (n ≡ 0) × (w.before ≡ b) × (last ≡ Err stop.Finished)) →
     TurnsReport b d piece from to n last
 turns_with b x d piece from to n read last w reports kept whole = record {
@@ -111,7 +112,7 @@ turns_with b x d piece from to n read last w reports kept whole = record {
 -- one turn of the other kind, and no other before it
 pub first_turn : (a d : Running) (piece : List ℕ) (from to : ℕ) (last : Turned) →
     to ≡ from + 1 → IsSound a → StepReports a d piece last → KeepsTurns a d last →
-    (is_whole a.built ≡ true → last ≡ Err stop.Finished) →
+    (is_complete a.built ≡ true → last ≡ Err stop.Finished) →
     TurnsReport a d piece from to 0 last
 unfolding no_whole one_turn
 first_turn a d piece from to last is sound reports kept finished =
@@ -146,7 +147,7 @@ pub whole_left : (b x d : Running) (piece : List ℕ) (at from to n : ℕ) (left
     (last : Turned) → left ≡ tried.Untouched →
     WholeTurnsReport b x (take (length piece - at) (drop at piece)) from to n left →
     StepReports x d (take (length piece - (at + n)) (drop (at + n) piece)) last →
-    KeepsTurns x d last → (is_whole x.built ≡ true → last ≡ Err stop.Finished) →
+    KeepsTurns x d last → (is_complete x.built ≡ true → last ≡ Err stop.Finished) →
     TurnsReport b d (drop at piece) from to n last
 whole_left b x d piece at from to n left last e h reports kept finished =
     let w = whole_of b x piece at from to n left tried.Untouched e h in
@@ -159,7 +160,7 @@ whole_left b x d piece at from to n left last e h reports kept finished =
     (λ is. (
       (w.whole is).0,
       (w.whole is).1,
-      finished (subst (λ (s : Running). is_whole s.built ≡ true)
+      finished (subst (λ (s : Running). is_complete s.built ≡ true)
           (sym (w.reports ∙ (w.whole is).1)) is),
     ))
 
@@ -326,16 +327,16 @@ call_counts a b d piece at start from to n stop.OutOfMemory le h each few t =
 
 -- where the value was whole at the start of a call, no turn goes on, so anything follows
 pub whole_call_stops : {X : Type 0} (a b d : Running) (piece : List ℕ) (at from to n k : ℕ) →
-    (is_whole a.built ≡ true → (at ≡ 0) × (b ≡ a)) → TurnsReport b d piece from to n (Ok k) →
-    is_whole a.built ≡ true → X
+    (is_complete a.built ≡ true → (at ≡ 0) × (b ≡ a)) → TurnsReport b d piece from to n (Ok k) →
+    is_complete a.built ≡ true → X
 whole_call_stops a b d piece at from to n k h t w =
     let stops = (t.whole (stays_whole a b at h w)).2 in
     absurd cc
 
 -- where it was, the one turn stops there, and nothing changes
 call_whole : (a b d : Running) (piece : List ℕ) (at from to n : ℕ) (s : Stopped) →
-    (is_whole a.built ≡ true → (at ≡ 0) × (b ≡ a)) →
-    TurnsReport b d piece from to n (Err s) → is_whole a.built ≡ true →
+    (is_complete a.built ≡ true → (at ≡ 0) × (b ≡ a)) →
+    TurnsReport b d piece from to n (Err s) → is_complete a.built ≡ true →
     (◌≡◌ {A = ℕ × Stopped} (at + n, s) (0, stop.Finished)) × (d ≡ a)
 call_whole a b d piece at from to n stop.Finished h t w =
     let was = h w in
@@ -379,7 +380,7 @@ call_on a b d piece at start from to n k c t =
 -- where it did and all bytes were taken, one more stops that finds the next node to want more
 pub tells_wants : (a b : Running) (piece : List ℕ) (at start from to : ℕ) →
     CallSoFar a b piece at start from → to ≡ from + 1 → at ≡ length piece → WantsBytes b →
-    IsSound b → (is_whole b.built ≡ true → ⊥) → FeedTells a b piece start to (at, stop.Wants)
+    IsSound b → (is_complete b.built ≡ true → ⊥) → FeedTells a b piece start to (at, stop.Wants)
 tells_wants a b piece at start from to c is all wants sound begun = record {
   reports =
       (c.inside, (b, c.moves, (drop_all at piece (omega (arith, all)), wants), refl, sound));

@@ -8,7 +8,7 @@ use Rattle.grammar_core.specs.declared.form.Form.{Form}
 use Rattle.grammar_core.specs.declared.form.Next.TheVariants as next
 use Rattle.value_core.specs.Built.{Built}
 use Rattle.value_core.specs.Walked.{next_of}
-use Rattle.value_core.specs.Refusals.{is_whole}
+use Rattle.value_core.specs.Refusals.{is_complete}
 use Rattle.machine_core.specs.Running.{Running, IsCarry}
 use Rattle.machine_core.specs.Turned.{CallSoFar, CutReports, FeedTells, IsSound, KeepsTurns}
 use Rattle.machine_core.specs.Turned.{StepReports, TurnsReport}
@@ -69,7 +69,7 @@ carried_closed b (x ∷ c) h some = h.3
 
 -- and only where the value goes on
 carried_goes_on : (a : Running) (c : List ℕ) → IsCarry a.built c → 1 ≤ length c →
-    is_whole a.built ≡ true → ⊥
+    is_complete a.built ≡ true → ⊥
 carried_goes_on a [] h some w = omega (arith, some)
 carried_goes_on a (x ∷ c) h some w = wants_goes_on a h.0 h.1 w
 

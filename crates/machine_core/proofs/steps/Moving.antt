@@ -9,7 +9,7 @@ use Rattle.grammar_core.specs.Parts.{first_of}
 use Rattle.grammar_core.specs.declared.form.Form.{Form}
 use Rattle.grammar_core.specs.declared.form.Next.TheVariants as next
 use Rattle.registry_core.specs.declared.type_info.TypeInfo.{TypeInfo}
-use Rattle.value_core.specs.Refusals.{is_whole, is_whole_in}
+use Rattle.value_core.specs.Refusals.{is_complete, is_whole_in}
 use Rattle.value_core.specs.Walked.{OpenPart, first_in, next_from, next_of}
 use Rattle.machine_core.specs.Machine.{State, remain, to_go}
 use Rattle.machine_core.specs.Running.{Running, held_of, state_of}
@@ -143,9 +143,9 @@ turns_stop a b c piece at (stop.Refused held reported_reason place len) le h k s
 
 -- a whole value has one turn, which stops
 pub stays_whole : (fn self : Running) (at : ℕ) →
-    (is_whole fn.built ≡ true → (at ≡ 0) × (self ≡ fn)) →
-    is_whole fn.built ≡ true → is_whole self.built ≡ true
-stays_whole fn self at h w = subst (λ (s : Running). is_whole s.built ≡ true) (sym (h w).1) w
+    (is_complete fn.built ≡ true → (at ≡ 0) × (self ≡ fn)) →
+    is_complete fn.built ≡ true → is_complete self.built ≡ true
+stays_whole fn self at h w = subst (λ (s : Running). is_complete s.built ≡ true) (sym (h w).1) w
 
 -- what is left of a piece, as a slice of it
 rest_reports : (b c : Running) (piece : List ℕ) (at n : ℕ) →
@@ -176,7 +176,7 @@ turn_nearer b c piece at n k =
 
 -- where a value is next that has not come, none is whole
 pub wants_goes_on : {X : Type 0} (s : Running) (f : Form) → next_of s.built.walk ≡ next.Wants f →
-    is_whole s.built ≡ true → X
+    is_complete s.built ≡ true → X
 wants_goes_on s f h w = by s.built.walk.frames h w where
   none : {X : Type 0} (t : Option ℕ) → next_from s.built.walk t ≡ next.Wants f →
       is_none t ≡ true → X

@@ -26,7 +26,7 @@ use Rattle.grammar_core.specs.declared.form.Next.TheVariants as next
 use Rattle.grammar_core.proofs.Runs.{length_extends}
 use Rattle.value_core.specs.Built.{Built, Pieces, next_layout, run_head, with_leaf, with_run_closed}
 use Rattle.value_core.specs.Built.{with_run_ended}
-use Rattle.value_core.specs.Refusals.{IsRunWhole, Lacks, bad_bytes, bad_text, missing_at}
+use Rattle.value_core.specs.Refusals.{IsRunComplete, Lacks, bad_bytes, bad_text, missing_at}
 use Rattle.value_core.specs.Walked.{next_of}
 use Rattle.form_core.specs.Needs.{HasBytes}
 use Rattle.machine_core.specs.NodeAdds.{IsAdded}
@@ -216,7 +216,7 @@ pub held_open : (b : Built) (c : List ℕ) (t : Pieces) → b.run ≡ Some t →
 held_open b c t e = ap (λ (o : Option Pieces). run_held o c) e
 
 -- a run at its end lacks nothing
-lacks_none : (b : Built) (c : List ℕ) → IsRunOpen b c 0 → IsRunWhole b
+lacks_none : (b : Built) (c : List ℕ) → IsRunOpen b c 0 → IsRunComplete b
 lacks_none b c n =
     let t = n.pieces in
     let none : t.len - length t.bytes ≡ 0 = omega (arith, n.lacks) in (
@@ -231,8 +231,8 @@ where_open (Some t) P h = h
 where_open None P h = tt
 
 -- a run at its end lacks nothing, if one is open at all
-pub end_whole : (b : Built) (c : List ℕ) → IsRunOpen b c 0 → IfSome b.run (λ x. IsRunWhole b)
-end_whole b c n = where_open b.run (IsRunWhole b) (lacks_none b c n)
+pub end_whole : (b : Built) (c : List ℕ) → IsRunOpen b c 0 → IfSome b.run (λ x. IsRunComplete b)
+end_whole b c n = where_open b.run (IsRunComplete b) (lacks_none b c n)
 
 -- what is wrong with its bytes is what is wrong with the open run
 pub end_bad : (b : Built) (c : List ℕ) (n : IsRunOpen b c 0) →

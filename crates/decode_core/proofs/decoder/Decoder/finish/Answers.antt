@@ -3,7 +3,7 @@ use Rattle.decode_core.specs.Decoding.{AnswersPiece, Decoding}
 use Rattle.std.proofs.Common.{ap, refl, sym, subst, ◌∙◌}
 use Rattle.std.proofs.lemmas.Result.{err_from_is_err_and}
 use Rattle.value_core.specs.Built.{finished}
-use Rattle.value_core.specs.Refusals.{is_whole}
+use Rattle.value_core.specs.Refusals.{is_complete}
 use Rattle.node_core.specs.Shown.{Seen}
 use Rattle.machine_core.specs.Running.{Running}
 use Rattle.decode_core.specs.declared.decoder.Progress.{Progress}
@@ -17,7 +17,8 @@ pub into_value-requires : goal.into_value-requires
 into_value-requires g c =
     let one : c.in-Ok.run' ≡ c.in_ok-run.field-0 =
     same_run c.in-Ok.run' c.in_ok-run.field-0 c.self.inside.run c.in-Ok.is c.in_ok-run.was in
-    subst (λ (s : Running). is_whole s.built ≡ true) one (c.if-is_finished.ensures.ends refl []).2
+    subst (λ (s : Running). is_complete s.built ≡ true) one
+    (c.if-is_finished.ensures.ends refl []).2
 
 pub returns-clause-finishes : goal.returns-clause-finishes
 returns-clause-finishes g c = λ b led.

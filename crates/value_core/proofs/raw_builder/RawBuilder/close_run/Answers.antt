@@ -2,7 +2,7 @@ use Rattle.std.proofs.Common.{rules, ◌≡◌, ◌∙◌, ◌+◌, ◌^◌, ◌
 use Rattle.std.proofs.Common.{subst}
 use Rattle.value_core.specs.Built.{Built}
 use Rattle.value_core.specs.Building.{IsOpenRun}
-use Rattle.value_core.specs.Refusals.{IsRunWhole, bad_text}
+use Rattle.value_core.specs.Refusals.{IsRunComplete, bad_text}
 use Rattle.node_core.specs.Shown.{all_kept}
 use Rattle.value_core.proofs.Closing.{leaf_paid, settled_again, settled_paid}
 use Rattle.value_core.proofs.Leaves.{texts_kept}
@@ -11,7 +11,7 @@ use Rattle.value_core.proofs.raw_builder.RawBuilder.close_run.Goals as goal
 
 pub close_complete-requires : goal.close_complete-requires
 close_complete-requires g c =
-    let whole = subst (λ (b : Built). IfSome b.run (λ x. IsRunWhole b)) (sym c.self.view_is)
+    let whole = subst (λ (b : Built). IfSome b.run (λ x. IsRunComplete b)) (sym c.self.view_is)
     c.requires.whole in
     let valid = subst (λ (b : Built). bad_text b.run ≡ None) (sym c.self.view_is)
     c.requires.valid in
@@ -26,7 +26,7 @@ close_complete-requires g c =
 
 pub invariant_of-self-2 : goal.invariant_of-self-2
 invariant_of-self-2 g c =
-    let whole = subst (λ (b : Built). IfSome b.run (λ x. IsRunWhole b)) (sym c.self.view_is)
+    let whole = subst (λ (b : Built). IfSome b.run (λ x. IsRunComplete b)) (sym c.self.view_is)
     c.requires.whole in
     let valid = subst (λ (b : Built). bad_text b.run ≡ None) (sym c.self.view_is)
     c.requires.valid in
