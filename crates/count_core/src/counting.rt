@@ -5,14 +5,14 @@ ghost use base.Fml.{ftrue};
 
 use std::marker::{Model, PhantomData};
 
-/// How often something was done, for contracts alone: it takes no bytes at run time, begins at 0, and only `tick`
-/// changes it.
+/// A count for contracts of how often something was done. It takes no bytes at run time.
 ///
-/// A loop whose turns are counted calls `tick` in each of them, and its contract says how far the count goes up; a loop
-/// that turns more often, as once for each element that a length claims, then has no proof.
+/// It begins at 0, and only `tick` changes it. A loop whose turns are counted calls `tick` in each
+/// of them, and its contract states how far the count rises. A loop that takes more turns, such as
+/// one for each element that a length claims, then has no proof.
 pub struct Count {
     marker: PhantomData<()>,
-    /// How often it was done.
+    /// The number of calls of `tick`.
     pub ghost so_far: { ℕ },
 }
 
@@ -27,7 +27,7 @@ impl Drop for Count {
 }
 
 impl Count {
-    /// A count of what was not done yet. It takes no memory.
+    /// Creates a count of 0. It takes no memory.
     pub fn new() -> Count
         ensures { result.so_far ≡ 0 }
     {
@@ -36,7 +36,7 @@ impl Count {
         }
     }
 
-    /// It is done once more. Nothing happens at run time.
+    /// Adds one to the count. It does nothing at run time.
     pub fn tick(&mut self)
         ensures { self.new.so_far ≡ self.old.so_far + 1 }
     {}

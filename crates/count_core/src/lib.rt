@@ -1,4 +1,4 @@
-//! Counts and logs that take no bytes, for contracts alone.
+//! Counts and logs for contracts, which take no bytes at run time.
 #![tactic(auto)]
 
 mod counting;

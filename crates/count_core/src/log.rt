@@ -6,13 +6,14 @@ ghost use base.Fml.{ftrue};
 use std::fmt;
 use std::marker::{Model, PhantomData};
 
-/// The numbers of what was looked at, the newest first, for contracts alone: it takes no bytes at run time, begins empty,
-/// and only `add` changes it.
+/// A log for contracts of the numbers of what was looked at, the newest first. It takes no bytes at
+/// run time.
 ///
-/// Where nothing can be read but by a method that adds to a log, a contract can say how often each thing is read at most.
+/// It begins empty, and only `add` changes it. If things can be read only by a method that adds to
+/// a log, a contract can bound how often each of them is read.
 pub struct Log {
     marker: PhantomData<()>,
-    /// What was looked at, the newest first.
+    /// The numbers of what was looked at, the newest first.
     pub ghost entries: { List ℕ },
 }
 
@@ -33,7 +34,7 @@ impl fmt::Debug for Log {
 }
 
 impl Log {
-    /// The log before any look. It takes no memory.
+    /// Creates an empty log. It takes no memory.
     pub fn new() -> Log
         ensures { result.entries ≡ [] }
     {
@@ -42,7 +43,7 @@ impl Log {
         }
     }
 
-    /// One look at what has this number. Nothing happens at run time.
+    /// Adds a number to the log. It does nothing at run time.
     pub fn add(&mut self, _number: u32)
         ensures { self.new.entries ≡ _number ∷ self.old.entries }
     {}

@@ -1,4 +1,4 @@
-//! Where the reading of definitions stands.
+//! The position in the reading of definitions.
 
 ghost use Rattle.std.specs.Prelude.{◌≡◌, ◌∷◌, [], option_map, slice_get};
 ghost use Rattle.graph_core.specs.Cursors.{arm_outline, arms_of, last_of, open_references};
@@ -6,18 +6,19 @@ ghost use Rattle.registry_core.specs.declared.definition.TypeDef.TheVariants.{Va
 
 use registry_core::{Arm, TypeDef, TypeId};
 
-/// Where the reading of definitions stands.
+/// A position in the reading of definitions.
 #[derive(Clone, Copy)]
 pub(crate) struct Cursor {
-    /// How many types were opened to be read. The last of them is open.
+    /// The number of types that were opened to be read. The last of them is open.
     pub types: usize,
-    /// How many arms of the open type were begun. The fields of the last of them are open.
+    /// The number of arms of the open type that were begun. The fields of the last of them are
+    /// open.
     pub arms: usize,
-    /// How many references were read of what is open.
+    /// The number of references that were read of what is open.
     pub parts: usize,
 }
 
-/// The last of the first `count` arms, where there is one.
+/// Returns the last of the first `count` arms, or `None` if there is none.
 fn last_arm(arms: &[Arm], count: usize) -> Option<&Arm>
     ensures { option_map (λ a. a.now) result ≡ last_of arms.now count }
 {
@@ -27,14 +28,14 @@ fn last_arm(arms: &[Arm], count: usize) -> Option<&Arm>
     }
 }
 
-/// The one reference of a definition, where it was not read.
+/// Returns the one reference of a definition, or `None` if it was read.
 fn only(id: TypeId, parts: usize) -> Option<u32>
     ensures { result ≡ slice_get (id.0 ∷ []) parts }
 {
     if parts == 0 { Some(id.0) } else { None }
 }
 
-/// The type of a field of the arm that is open.
+/// Returns the type of the field at position `parts` of the open arm, or `None` if there is none.
 fn field_of(arms: &[Arm], begun: usize, parts: usize) -> Option<u32>
     ensures { result ≡ slice_get (open_references (Variant arms.now) begun) parts }
 {
@@ -43,7 +44,7 @@ fn field_of(arms: &[Arm], begun: usize, parts: usize) -> Option<u32>
 }
 
 impl Cursor {
-    /// The next reference of what is open in this definition, where one is left.
+    /// Returns the next reference of what is open in this definition, or `None` if none is left.
     pub(crate) fn reference(&self, shape: &TypeDef) -> Option<u32>
         ensures { result ≡ slice_get (open_references shape.now self.now.arms) self.now.parts }
     {
@@ -58,8 +59,8 @@ impl Cursor {
         }
     }
 
-    /// The index of the next arm of this definition, and how many fields it has, where an arm is
-    /// left.
+    /// Returns the index of the next arm of this definition and the number of its fields, or `None`
+    /// if no arm is left.
     pub(crate) fn arm(&self, shape: &TypeDef) -> Option<(u8, usize)>
         ensures { result ≡ arm_outline (slice_get (arms_of shape.now) self.now.arms) }
     {

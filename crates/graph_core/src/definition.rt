@@ -1,29 +1,30 @@
-//! What a graph tells of a definition when it opens it.
+//! The outline of a definition, which a graph returns when it opens a type.
 
 ghost use Rattle.std.specs.Prelude.{◌≡◌};
 ghost use Rattle.graph_core.specs.Outlines.{outline};
 
 use registry_core::{Primitive, TypeDef};
 
-/// What a definition is made of, without its references: these are read one after the other.
+/// The outline of a definition: its form without its references, which are read one after the
+/// other.
 #[derive(Drop)]
 pub enum Definition {
-    /// So many fields.
+    /// The number of fields.
     Composite(usize),
-    /// So many arms.
+    /// The number of arms.
     Variant(usize),
     Sequence,
-    /// So many elements.
+    /// The number of elements.
     Array(u32),
-    /// So many members.
+    /// The number of members.
     Tuple(usize),
     Primitive(Primitive),
     Compact,
-    /// Its ids are no references.
+    /// A bit sequence. Its ids are not references.
     BitSequence,
 }
 
-/// What a definition is made of.
+/// Returns the outline of a definition.
 pub(crate) fn outline(shape: &TypeDef) -> Definition
     ensures { result ≡ outline shape.now }
 {

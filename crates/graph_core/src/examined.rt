@@ -5,10 +5,10 @@ ghost use Rattle.std.specs.Prelude.{◌≡◌};
 use crate::looks::Looks;
 use registry_core::Registry;
 
-/// A registry that a graph gave back, with the looks that the graph took at it.
+/// A registry that a graph returned, with the looks that the graph took at it.
 ///
-/// The registry is only lent from here on, so no second graph is made of it, and the looks stay
-/// those that were taken.
+/// The registry is only lent from here on, so no second graph can be created from it, and the looks
+/// do not change.
 #[derive(Debug, Drop)]
 pub struct Examined {
     pub(crate) registry: Registry,
@@ -16,7 +16,7 @@ pub struct Examined {
 }
 
 impl Examined {
-    /// The registry, lent.
+    /// Returns the registry.
     pub fn registry(&self) -> &Registry
         ensures { result.now ≡ self.now.registry }
     {

@@ -1,4 +1,4 @@
-//! Why a registry is refused.
+//! Why a registry is rejected.
 
 ghost use Rattle.std.specs.Prelude.{◌≡◌};
 ghost use Rattle.graph_core.specs.declared.fault.CheckFault.TheVariants.{OutOfMemory};
@@ -6,12 +6,12 @@ ghost use Rattle.graph_core.specs.declared.fault.CheckFault.TheVariants.{OutOfMe
 use registry_core::TypeId;
 use std::alloc::{AllocError, AllocFailed};
 
-/// Why a registry is refused.
+/// The reason why a registry is rejected.
 #[derive(Clone, Copy, Debug, PartialEq, Eq)]
 pub enum CheckFault {
-    /// The type `from` refers to the type `to`, which is not there.
+    /// The type `from` refers to the type `to`, which is not in the registry.
     UnknownType { from: TypeId, to: TypeId },
-    /// Memory was refused.
+    /// An allocation failed.
     OutOfMemory,
 }
 

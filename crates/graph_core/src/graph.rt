@@ -1,5 +1,4 @@
-//! The graph of a registry's types and references, read through looks that are logged and in no
-//! other way.
+//! The graph of a registry's types and references. Each look at the registry is logged.
 
 ghost use Rattle.std.specs.Prelude.{◌≡◌, ◌<◌, [], ◌∷◌, length, option_map, OnOk, IfOk, IfErr};
 ghost use Rattle.std.specs.Prelude.{IfSome, slice_index};
@@ -26,12 +25,12 @@ use crate::sizes::{Sizes, sizes_in};
 use registry_core::{Registry, TypeDef};
 use std::alloc::{AllocError, Global};
 
-/// A reference in the list of those to one type.
+/// A reference in the list of the references to one type.
 #[derive(Clone, Copy)]
 pub struct Link {
-    /// The counter that counts the type that it is to.
+    /// The counter that counts the type that it refers to.
     pub counter: u32,
-    /// One more than the number of the reference to the same type before it, and 0 where it is the
+    /// One more than the number of the previous reference to the same type, or 0 if it is the
     /// first.
     pub before: u32,
 }
@@ -41,18 +40,17 @@ const _: () = prove!(size_of::<Link>() == 8);
 /// The types of a registry, and for each the list of the references to it that were read, the
 /// newest first.
 ///
-/// A graph owns its registry until it is done, so there is no other way to its types, and it lends
-/// none of them: each look goes through a method that logs it. A type is looked at once when it is
-/// measured, and once more when it is opened, in the order of the registry. From then on its
-/// references are read one after the other, each once. References have numbers in the order in
-/// which they are read. The lists are linked: lists that lie side by side would first need the
-/// length of each, and so a third look at every reference.
+/// A graph owns its registry and lends none of its types, so every look goes through a method that
+/// logs it. A type is looked at once to be measured, and once more to be opened, in the order of
+/// the registry. Its references are read after it is opened, one after the other, each once.
+/// References are numbered in the order in which they are read.
+// The lists are linked. Contiguous lists would need the length of each first, and so a third look
+// at every reference.
 #[derive(Drop)]
 pub struct Graph {
     registry: Registry,
     cursor: Cursor,
-    /// For each type one more than the number of the newest reference to it, and 0 where there is
-    /// none.
+    /// For each type one more than the number of the newest reference to it, or 0 if there is none.
     newest: Vec<u32>,
     links: Vec<Link>,
     /// The references in the order in which they were read.
@@ -61,7 +59,7 @@ pub struct Graph {
 }
 
 impl Graph {
-    /// The graph of a registry before any look. It takes no memory.
+    /// Creates the graph of a registry, before any look. It allocates nothing.
     pub fn new(alloc: Global, registry: Registry) -> Graph
         ensures { IsUnread registry result }
     {
@@ -79,14 +77,15 @@ impl Graph {
         }
     }
 
-    /// How many types there are.
+    /// Returns the number of types.
     pub fn count(&self) -> usize
         ensures { result ≡ length self.now.registry }
     {
         self.registry.types().len()
     }
 
-    /// One look at a type, to measure it. Answers `None` where a number is no `usize`.
+    /// Returns the sizes of a type, or `None` if one of them is above `usize::MAX`. It logs one
+    /// look at the type.
     pub(crate) fn measure(&mut self, at: u32) -> Option<Sizes>
         requires { at < length self.old.registry }
         ensures sizes { IfSome result (λ s. (d : TypeDef)
@@ -98,7 +97,11 @@ impl Graph {
         sizes_in(&info.shape)
     }
 
-    /// Makes an empty list for each type, and takes the memory for so many references.
+    /// Creates an empty list for each type, and reserves capacity for this many references.
+    ///
+    /// # Errors
+    ///
+    /// `AllocError` if an allocation fails; the registry, the reading and the logs are unchanged.
     pub fn prepare(&mut self, alloc: Global, references: usize) -> Result<(), AllocError>
         requires { IsMeasured self.old.registry self.old }
         ensures made { OnOk result (IsNew self.new) }
@@ -110,15 +113,15 @@ impl Graph {
         Ok(())
     }
 
-    /// How many types were opened.
+    /// Returns the number of types that were opened.
     pub(crate) fn opened(&self) -> usize
         ensures { result ≡ self.now.cursor.types }
     {
         self.cursor.types
     }
 
-    /// One look at a type, the one after that which was opened last, to read it: tells what it is
-    /// made of.
+    /// Opens the type after the last opened one, and returns the outline of its definition. It logs
+    /// one look at the type.
     pub fn open(&mut self, position: u32) -> Definition
         requires next { position ≡ self.old.cursor.types }
         requires within { position < length self.old.registry }
@@ -136,7 +139,7 @@ impl Graph {
         outline(&info.shape)
     }
 
-    /// The definition that is open.
+    /// Returns the open definition, or `None` if no type is open.
     fn current(&self) -> Option<&TypeDef>
         ensures found { option_map (λ d. d.now) result ≡ current self.now }
         ensures fits { FitsRegistry self.now.registry }
@@ -149,7 +152,7 @@ impl Graph {
         Some(&info?.shape)
     }
 
-    /// The next reference of what is open, where one is left.
+    /// Returns the next reference of what is open, or `None` if none is left.
     fn next_reference(&self) -> Option<u32>
         ensures found { result ≡ next_reference self.now }
         ensures fits { FitsRegistry self.now.registry }
@@ -157,8 +160,8 @@ impl Graph {
         self.cursor.reference(self.current()?)
     }
 
-    /// The next arm of the open definition, where one is left: its index, and how many fields it
-    /// has.
+    /// Returns the index of the next arm of the open definition and the number of its fields, or
+    /// `None` if no arm is left.
     fn arm(&self) -> Option<(u8, usize)>
         ensures found { result ≡ arm_outline (next_arm self.now) }
         ensures fits { FitsRegistry self.now.registry }
@@ -166,7 +169,8 @@ impl Graph {
         self.cursor.arm(self.current()?)
     }
 
-    /// One look at a reference: the next one of what is open, where one is left.
+    /// Reads the next reference of what is open, or returns `None` if none is left. It logs one
+    /// look at the reference.
     pub(crate) fn read_next(&mut self) -> Option<u32>
         ensures { IsReadNext self.old self.new result }
     {
@@ -176,8 +180,8 @@ impl Graph {
         Some(id)
     }
 
-    /// Begins the next arm of the open definition, where one is left: its index, and how many
-    /// fields it has.
+    /// Begins the next arm of the open definition, and returns its index and the number of its
+    /// fields, or `None` if no arm is left.
     pub fn next_arm(&mut self) -> Option<(u8, usize)>
         requires { parts_left self.old ≡ [] }
         ensures { IsArmNext self.old self.new result }
@@ -188,8 +192,18 @@ impl Graph {
         Some(arm)
     }
 
-    /// One look at a reference: the next one of what is open, which is put into the list of those
-    /// to its type, for this counter. Answers the position that it is to.
+    /// Reads the next reference of what is open, and returns the position that it refers to.
+    ///
+    /// The reference is added, with the counter, to the list of references to its type. It logs one
+    /// look at the reference.
+    ///
+    /// # Errors
+    ///
+    /// - `Unknown` if the reference is not a position of the registry.
+    /// - `Memory` if an allocation fails, or if 4294967295 references were read before.
+    ///
+    /// After an error the reading has passed the reference and its look is logged, but it is in no
+    /// list.
     pub fn next(&mut self, counter: u32) -> Result<u32, LinkStop>
         requires linked { IsLinked self.old }
         requires some { 0 < length (parts_left self.old) }
@@ -211,7 +225,7 @@ impl Graph {
         Ok(id)
     }
 
-    /// How many references were read.
+    /// Returns the number of references that were read.
     pub fn read(&self) -> u32
         requires { IsLinked self.now }
         ensures { result ≡ length (refs self.now) }
@@ -219,7 +233,7 @@ impl Graph {
         self.links.len() as u32
     }
 
-    /// One more than the number of the newest reference to a type, and 0 where there is none.
+    /// Returns one more than the number of the newest reference to a type, or 0 if there is none.
     pub fn newest(&self, position: u32) -> u32
         requires { position < length self.now.newest.items }
         ensures { result ≡ slice_index self.now.newest.items position }
@@ -227,7 +241,8 @@ impl Graph {
         self.newest[position as usize]
     }
 
-    /// One look at a reference in the list of those to its type.
+    /// Returns the reference with this number, from the list of references to its type. It logs one
+    /// look at the reference.
     pub fn link(&mut self, number: u32) -> Link
         requires { number < length self.old.links.items }
         ensures counter { result.counter ≡ slice_index (numbers self.old) number }
@@ -238,8 +253,8 @@ impl Graph {
         self.links[number as usize]
     }
 
-    /// The registry with the looks that were taken at it, and the references in the order in which
-    /// they were read.
+    /// Returns the registry with the looks that were taken at it, and the references in the order
+    /// in which they were read.
     pub fn into_parts(self) -> (Examined, Vec<u32>)
         ensures registry { result.0.registry ≡ self.registry }
         ensures looks { result.0.looks ≡ self.looks }
@@ -256,7 +271,7 @@ impl Graph {
         (Examined { registry, looks }, members)
     }
 
-    /// The registry, handed back with the fault for which it is refused.
+    /// Returns the fault for which the registry is rejected, and the registry.
     pub fn refuse(self, fault: CheckFault) -> (CheckFault, Registry)
         requires { IsFaultOf fault (first_fault self.registry) }
         ensures fault { result.0 ≡ fault }

@@ -1,5 +1,7 @@
-//! The types of a registry as a graph: which references they have, and the lists of those to each
-//! type, read through looks that are logged and in no other way.
+//! The types of a registry as a graph: the references of each type, and the lists of references to
+//! each type.
+//!
+//! A graph logs each look at its registry. A look is one access to a definition or to a reference.
 #![tactic(auto)]
 
 mod cursor;

@@ -8,18 +8,17 @@ use crate::fault::CheckFault;
 use registry_core::TypeId;
 use std::alloc::{AllocError, AllocFailed};
 
-/// Why the linking of a type stopped.
+/// The reason why the linking of a type stopped.
 #[derive(Clone, Copy)]
 pub enum LinkStop {
-    /// Memory was refused, or there are more references or counters than there are numbers for
-    /// them.
+    /// An allocation failed, or there are more references or counters than numbers for them.
     Memory,
-    /// At a reference to this id, which is no position.
+    /// A reference is to this id, which is not a position of the registry.
     Unknown(u32),
 }
 
 impl LinkStop {
-    /// The same as a fault of the type at this position.
+    /// Returns the fault of the type at this position for this reason.
     pub fn in_type(self, position: u32) -> CheckFault
         ensures { result ≡ fault_in position self }
     {

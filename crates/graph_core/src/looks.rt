@@ -1,23 +1,24 @@
-//! What was looked at while a registry was checked.
+//! The looks that were taken at a registry while it was checked.
 
 ghost use Rattle.std.specs.Prelude.{◌≡◌, []};
 
 use count_core::Log;
 
-/// What was looked at while a registry was checked, in logs that take no bytes. Only a graph makes
-/// them and adds to them.
+/// The looks that were taken at a registry while it was checked, in logs that take no bytes.
+///
+/// Only a graph creates these logs and adds to them.
 #[derive(Debug, Drop)]
 pub struct Looks {
     /// The positions of the types whose definitions were looked at.
     pub(crate) opened: Log,
-    /// The positions to which the references are that were looked at in definitions.
+    /// The positions that the references looked at in definitions refer to.
     pub(crate) read: Log,
     /// The numbers of the references that were looked at in lists.
     pub(crate) listed: Log,
 }
 
 impl Looks {
-    /// The logs before any look.
+    /// Creates the logs, before any look.
     pub(crate) fn new() -> Looks
         ensures opened { result.opened.entries ≡ [] }
         ensures read { result.read.entries ≡ [] }

@@ -1,4 +1,4 @@
-//! References that have to be positions, in the order of the registry's bytes.
+//! The search for the first reference that is not a position, in the order of the registry's bytes.
 
 ghost use Rattle.std.specs.Prelude.{◌≡◌, ◌<◌, ◌^◌, [], length, option_map};
 ghost use Rattle.graph_core.specs.Cursors.{left, parts_left};
@@ -9,14 +9,17 @@ ghost use Rattle.graph_core.specs.Unknown.{FindsUnknown, FindsUnknownPart};
 use crate::graph::Graph;
 use registry_core::TypeId;
 
-/// A reference to a type, and the type that it stands in.
+/// A reference to a type, and the type that contains it.
 #[derive(Clone, Copy)]
 pub struct Reference {
     pub from: TypeId,
     pub to: TypeId,
 }
 
-/// Reads what is left of the open fields or members up to the first reference that is no position.
+/// Reads the rest of the open fields or members up to the first reference that is not a position,
+/// and returns that reference.
+///
+/// `None` if each one is a position.
 fn unknown_part(graph: &mut Graph) -> Option<u32>
     ensures { FindsUnknownPart graph.old graph.new result }
 {
@@ -28,8 +31,10 @@ fn unknown_part(graph: &mut Graph) -> Option<u32>
     None
 }
 
-/// Reads what is left of the open definition up to the first reference that is no position. The ids
-/// of a bit sequence are no references.
+/// Reads the rest of the open definition up to the first reference that is not a position, and
+/// returns that reference.
+///
+/// `None` if each one is a position. The ids of a bit sequence are not references.
 fn unknown_left(graph: &mut Graph) -> Option<u32>
     ensures { FindsUnknown graph.old graph.new result }
 {
@@ -46,9 +51,11 @@ fn unknown_left(graph: &mut Graph) -> Option<u32>
     None
 }
 
-/// The first reference that is no position, by the type that it stands in, and then in the order of
-/// the definition's bytes, where the types before it may have been read: goes on where the reading
-/// stands, so no type is opened again and no reference is read again.
+/// Returns the first reference that is not a position, or `None` if each one is a position.
+///
+/// The order is that of the types that contain the references, and then that of the bytes of their
+/// definitions. The search continues where the reading of the graph stopped. No type is opened
+/// again, and no reference is read again.
 pub fn first_unknown(graph: &mut Graph) -> Option<Reference>
     requires fits { length graph.old.registry < 2 ^ 32 }
     requires begun { IsUnderWay graph.old.registry graph.old }

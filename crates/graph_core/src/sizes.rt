@@ -1,5 +1,6 @@
-//! How many references and arms a registry has, counted before memory is taken for them, and how
-//! many parts a value.
+//! The numbers of references and arms of a registry, and the greatest number of parts of a value.
+//!
+//! They are counted before memory is allocated for them.
 
 ghost use Rattle.std.specs.Prelude.{◌≡◌, ◌<◌, ◌^◌, length, flat_map, map, IfSome};
 ghost use Rattle.registry_core.specs.Fits.{FitsList, FitsArm, FitsDefinition, FitsRegistry};
@@ -11,8 +12,10 @@ ghost use Rattle.graph_core.specs.Widths.{greatest};
 use crate::graph::Graph;
 use registry_core::{Arm, TypeDef};
 
-/// How many references and arms the types of a registry have, shadowed arms and those of variants
-/// without values too, and how many parts a value of one of them has at most.
+/// The numbers of references and arms of types, and the greatest number of parts of a value of one
+/// of them.
+///
+/// Shadowed arms count, and so do the arms of variants without values.
 #[derive(Clone, Copy)]
 pub struct Sizes {
     pub references: usize,
@@ -20,7 +23,7 @@ pub struct Sizes {
     pub widest: u32,
 }
 
-/// How many fields these arms have. Answers `None` where the number is no `usize`.
+/// Returns the number of fields of these arms, or `None` if it is above `usize::MAX`.
 fn field_count(arms: &[Arm]) -> Option<usize>
     ensures { IfSome result (λ n. n ≡ length (arm_references arms.now)) }
 {
@@ -32,7 +35,7 @@ fn field_count(arms: &[Arm]) -> Option<usize>
     Some(count)
 }
 
-/// The greatest number of fields in one of these arms.
+/// Returns the greatest number of fields of one of these arms.
 fn widest_arm(arms: &[Arm]) -> u32
     requires { FitsList FitsArm arms.now }
     ensures { result ≡ greatest (map (λ a. length a.fields) arms.now) }
@@ -45,8 +48,10 @@ fn widest_arm(arms: &[Arm]) -> u32
     widest
 }
 
-/// How many references and arms a definition has, and how many parts a value of it at most. Answers
-/// `None` where a number is no `usize`.
+/// Returns the numbers of references and arms of a definition, and the greatest number of parts of
+/// a value of it.
+///
+/// `None` if one of them is above `usize::MAX`.
 pub(crate) fn sizes_in(shape: &TypeDef) -> Option<Sizes>
     requires { FitsDefinition shape.now }
     ensures { IfSome result (λ s. AreSizesOf shape.now s) }
@@ -68,8 +73,9 @@ pub(crate) fn sizes_in(shape: &TypeDef) -> Option<Sizes>
     })
 }
 
-/// The sizes of the types of a graph, by one look at each type and none at a reference. Answers
-/// `None` where a number is no `usize`.
+/// Returns the sizes of the types of a graph, or `None` if one of them is above `usize::MAX`.
+///
+/// It takes one look at each type, and none at a reference.
 pub fn sizes_of(graph: &mut Graph) -> Option<Sizes>
     requires fits { FitsRegistry graph.old.registry }
     requires unread { IsUnread graph.old.registry graph.old }

@@ -1,4 +1,4 @@
-//! A vector that gets its capacity by the rule of growth alone.
+//! A vector whose capacity follows the growth rule.
 
 ghost use Rattle.std.specs.Prelude.{◌≡◌, ◌≤◌, ◌<◌, ◌+◌, ◌++◌, ◌∷◌, [], ◌==◌, ◌↔◌, length, max};
 ghost use Rattle.std.specs.Prelude.{true, false, OnOk, OnErr, IsOk, IsSome, Some, slice_get};
@@ -8,10 +8,10 @@ ghost use Rattle.growth_core.specs.Growth.{least_ahead, most_ahead};
 use crate::growth::{make_room, make_room_ahead};
 use std::alloc::{AllocError, Allocator};
 
-/// The most elements for which [`GrowVec::make_room`] reserves beside those that are expected.
+/// The greatest number of elements that one call of [`GrowVec::make_room`] may ask for.
 pub const FEW: usize = 64;
 
-/// A growable list without a call that reserves capacity at will: all of it follows one rule.
+/// A growable list whose capacity follows one rule. No call reserves capacity at will.
 #[derive(Drop)]
 pub struct GrowVec<T, A: Allocator> {
     list: Vec<T, A>,
@@ -62,8 +62,10 @@ impl<T, A: Allocator> GrowVec<T, A> {
         more <= self.list.capacity() - self.list.len()
     }
 
-    /// Reserves capacity for `more` further elements, at most [`FEW`], and, if the list has to grow for
-    /// them, for some of those that are expected to follow ([`make_room`]).
+    /// Reserves capacity for `more` further elements, at most [`FEW`].
+    ///
+    /// If the list has to grow for them, it also reserves for some of those that are expected to
+    /// follow ([`make_room`]).
     ///
     /// # Errors
     ///
@@ -86,7 +88,7 @@ impl<T, A: Allocator> GrowVec<T, A> {
         make_room(&mut self.list, more, expected)
     }
 
-    /// Reserves capacity for some of the elements that are expected, if there is none for as many.
+    /// Reserves capacity for some of the elements that are expected, if they do not all fit.
     ///
     /// # Errors
     ///
@@ -127,7 +129,7 @@ impl<T, A: Allocator> GrowVec<T, A> {
 }
 
 impl<T: Copy, A: Allocator> GrowVec<T, A> {
-    /// Returns one of the elements.
+    /// Returns the element at a position.
     #[inline(always)]
     pub fn get(&self, at: usize) -> T
         requires { at < length self.now.list.items }
@@ -136,7 +138,7 @@ impl<T: Copy, A: Allocator> GrowVec<T, A> {
         self.list[at]
     }
 
-    /// Puts another element in the place of one.
+    /// Replaces the element at a position.
     #[inline(always)]
     pub fn replace(&mut self, at: usize, value: T)
         requires { at < length self.old.list.items }
@@ -146,7 +148,8 @@ impl<T: Copy, A: Allocator> GrowVec<T, A> {
         self.list[at] = value;
     }
 
-    /// Appends elements, after reserving for them and for some of those that are expected to follow.
+    /// Appends elements. If the list has to grow for them, it also reserves for some of those that
+    /// are expected to follow.
     ///
     /// # Errors
     ///

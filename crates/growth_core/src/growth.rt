@@ -1,4 +1,4 @@
-//! The rule by which a vector grows: how many elements it gets capacity for when it is full.
+//! The growth rule of vectors: for how many elements a full vector reserves capacity.
 
 ghost use Rattle.std.specs.Prelude.{◌≡◌, ◌<◌, ◌≤◌, ◌+◌, ◌/◌, max, Some, None, OnOk};
 ghost use Rattle.std.specs.Prelude.{vec_len, vec_capacity};
@@ -6,13 +6,13 @@ ghost use Rattle.growth_core.specs.Growth.{least_ahead, most_ahead};
 
 use std::alloc::{AllocError, Allocator};
 
-/// The number of elements that a vector gets capacity for at first.
+/// The number of elements for which a vector reserves capacity at first.
 pub const FIRST: usize = 16;
 
-/// From this many elements on, a vector grows by a quarter, and below by half.
+/// The number of elements from which a vector grows by a quarter; below it, a vector grows by half.
 const LONG: usize = 64 * 1024;
 
-/// Returns for how many further elements a full vector of this length reserves.
+/// Returns for how many further elements a full vector of this length reserves capacity.
 fn ahead(len: usize, expected: Option<usize>) -> usize
     ensures least { least_ahead len expected ≤ result }
     ensures most { result ≤ most_ahead len expected }
@@ -25,10 +25,11 @@ fn ahead(len: usize, expected: Option<usize>) -> usize
     }
 }
 
-/// Reserves capacity for `more` further elements, and, if the vector has to grow for them, for some of
-/// the `expected` elements that follow, or for a part of its length if nothing is known of these.
+/// Reserves capacity for `more` further elements.
 ///
-/// The vector keeps its elements.
+/// If the vector has to grow for them, it also reserves for some of the `expected` elements that
+/// follow. If nothing is known of these, it reserves for a part of its length. The vector keeps its
+/// elements.
 ///
 /// # Errors
 ///
@@ -43,12 +44,12 @@ pub fn make_room<T, A: Allocator>(
     ensures items { list.new.items ≡ list.old.items }
     ensures kept { vec_capacity list.old ≤ vec_capacity list.new }
     ensures room { OnOk result (vec_len list.new + more ≤ vec_capacity list.new) }
-    // To four times what is there at most, or for what is needed.
+    // To at most four times the length, or to the capacity that is needed.
     ensures most { vec_capacity list.new ≤ max (vec_capacity list.old)
         (vec_len list.old + max more (most_ahead (vec_len list.old) expected)) }
     ensures quarter { LONG ≤ vec_len list.old → expected ≡ None → vec_capacity list.new
         ≤ max (vec_capacity list.old) (vec_len list.old + max more (vec_len list.old / 4)) }
-    // Where it grows, by an eighth at least, or by all that is expected.
+    // If it grows, by at least an eighth, or by all that is expected.
     ensures least { vec_capacity list.old < vec_capacity list.new →
         vec_len list.old + least_ahead (vec_len list.old) expected ≤ vec_capacity list.new }
 {
@@ -59,7 +60,7 @@ pub fn make_room<T, A: Allocator>(
     list.reserve_exact(more.max(ahead(len, expected)))
 }
 
-/// Reserves capacity for some of the `expected` further elements, if there is none for as many.
+/// Reserves capacity for some of the `expected` further elements, if they do not all fit.
 ///
 /// The vector keeps its elements.
 ///

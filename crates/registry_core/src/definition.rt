@@ -1,4 +1,4 @@
-//! What a type is made of.
+//! The definitions of types.
 
 use crate::items::Items;
 use crate::primitive::Primitive;
@@ -8,13 +8,13 @@ use crate::type_id::TypeId;
 /// A field of a composite type or of an arm (scale-info, `Field`).
 #[derive(Debug, Drop)]
 pub struct Field {
-    /// Its name, where it has one: fields of a tuple struct have none.
+    /// Its name. A field of a tuple struct has none.
     pub name: Option<Text>,
     /// The type of its values.
     pub ty: TypeId,
-    /// The type's name as the source wrote it, where it was kept.
+    /// The type's name as written in the source, if it was kept.
     pub type_name: Option<Text>,
-    /// Its documentation, a text for each line.
+    /// Its documentation, one text for each line.
     pub docs: Items<Text>,
 }
 
@@ -23,18 +23,18 @@ pub struct Field {
 pub struct Arm {
     pub name: Text,
     pub fields: Items<Field>,
-    /// The byte that a value of this arm begins with. Two arms may have one index.
+    /// The first byte of every value of this arm. Two arms may have the same index.
     pub index: u8,
-    /// Its documentation, a text for each line.
+    /// Its documentation, one text for each line.
     pub docs: Items<Text>,
 }
 
-/// What a type is made of (scale-info, `TypeDef`).
+/// The definition of a type (scale-info, `TypeDef`).
 #[derive(Debug, Drop)]
 pub enum TypeDef {
-    /// Its fields, in order.
+    /// A value of each field, in order.
     Composite(Items<Field>),
-    /// One of its arms.
+    /// A value of one of the arms.
     Variant(Items<Arm>),
     /// Any number of values of one type.
     Sequence(TypeId),
@@ -46,6 +46,6 @@ pub enum TypeDef {
     Primitive(Primitive),
     /// An unsigned integer in its compact form.
     Compact(TypeId),
-    /// Bits, kept in units of the type `store` in the order that `order` names.
+    /// Bits, stored in units of the type `store` in the order that `order` names.
     BitSequence { store: TypeId, order: TypeId },
 }

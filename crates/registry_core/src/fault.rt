@@ -1,34 +1,36 @@
-//! Why the bytes of a registry are refused, and where.
+//! Why the bytes of a registry are rejected, and where.
 
 use std::error::Error;
 use std::fmt;
 
-/// Why the bytes of a registry are refused. Its text is its name.
+/// The reason why the bytes of a registry are rejected. Its text is its name.
 #[derive(Clone, Copy, Debug, PartialEq, Eq)]
 pub enum RegistryReason {
     /// The bytes end before the registry does.
     Truncated,
-    /// A text that is there whole and is not UTF-8.
+    /// A complete text is not UTF-8.
     BadUtf8,
-    /// A length or an id in a longer form than its value needs.
+    /// A length or an id has a longer form than its value needs.
     CompactNotShortest,
-    /// A length or an id above 4294967295; also one whose first byte alone claims more than the four bytes of a u32, as
-    /// `07` does, be it for a smaller value and whatever follows it, or nothing: `07` with five `00` after it is refused
-    /// so, and not as `CompactNotShortest`.
+    /// A length or an id is above 4294967295, or its first byte claims more than the four bytes of
+    /// a u32, as `07` does.
+    ///
+    /// Such a first byte is rejected whatever follows it, also for a smaller value, and if nothing
+    /// follows. `07` with five `00` after it is `CompactTooLarge`, not `CompactNotShortest`.
     CompactTooLarge,
-    /// An option's byte is neither `00` nor `01`.
+    /// The byte of an option is neither `00` nor `01`.
     BadOption,
-    /// A definition's byte is above `07`.
+    /// The byte of a definition is above `07`.
     BadDefinition,
-    /// A primitive's byte is above `0e`.
+    /// The byte of a primitive is above `0e`.
     BadPrimitive,
     /// The id of a type is not its position.
     IdOutOfPlace,
     /// One of the first four bytes of metadata is not that of `meta`.
     NotMetadata,
-    /// Metadata of a version other than 14 and 15.
+    /// The version of the metadata is neither 14 nor 15.
     WrongVersion,
-    /// Memory was refused.
+    /// An allocation failed.
     OutOfMemory,
 }
 
@@ -57,7 +59,8 @@ impl fmt::Display for RegistryReason {
 
 impl Error for RegistryReason {}
 
-/// A refusal: its reason, and its place in bytes from the front of the input. Its text is `REASON at PLACE`.
+/// An error: its reason, and its place in bytes from the start of the input. Its text is `REASON at
+/// PLACE`.
 #[derive(Clone, Copy, Debug, PartialEq, Eq)]
 pub struct RegistryFault {
     pub reason: RegistryReason,

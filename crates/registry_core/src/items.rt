@@ -21,14 +21,14 @@ impl<T> Model for Items<T> {
 }
 
 impl<T> Items<T> {
-    /// The list of this `Vec`, whose memory it keeps.
+    /// Creates a list from a `Vec`, and keeps its memory.
     pub fn from_vec(vec: Vec<T>) -> Items<T>
         ensures { result ≡ vec.items }
     {
         Items { items: vec }
     }
 
-    /// The `Vec` that it was made of, or one of the same elements.
+    /// Returns the elements as a `Vec`: the one that the list was created from, or an equal one.
     pub fn into_vec(self) -> Vec<T>
         ensures { result.items ≡ self }
     {
@@ -36,28 +36,28 @@ impl<T> Items<T> {
         items
     }
 
-    /// The elements in order, lent.
+    /// Returns the elements, in order.
     pub fn as_slice(&self) -> &[T]
         ensures { result.now ≡ self.now }
     {
         self.items.as_slice()
     }
 
-    /// How many elements it has.
+    /// Returns the number of elements.
     pub fn len(&self) -> usize
         ensures { result ≡ length self.now }
     {
         self.items.len()
     }
 
-    /// Does it have no element?
+    /// Returns whether there are no elements.
     pub fn is_empty(&self) -> bool
         ensures { result ≡ (length self.now == 0) }
     {
         self.items.is_empty()
     }
 
-    /// The elements in order, one after the other.
+    /// Returns an iterator over the elements, in order.
     pub fn iter(&self) -> slice::Iter<'_, T>
         ensures { iter_rest result ≡ self.now }
     {

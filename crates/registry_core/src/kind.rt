@@ -1,8 +1,8 @@
-//! The kinds of primitive types, and how many bytes their integers have.
+//! The kinds of primitive types, and the widths of their integers.
 
 ghost use Rattle.std.specs.Prelude.{◌≡◌, ◌≤◌};
 
-/// How many bits an integer of at most 128 has (SCALE codec specification, fixed-width integers).
+/// The width of an integer, in bits, at most 128 (SCALE codec specification, fixed-width integers).
 #[derive(Clone, Copy, Debug, PartialEq, Eq)]
 pub enum IntegerWidth {
     Bits8,
@@ -15,7 +15,7 @@ pub enum IntegerWidth {
 impl IntegerWidth {
     ghost use Rattle.registry_core.specs.Kinds.{width_bytes};
 
-    /// The number of bytes that such an integer has.
+    /// Returns the number of bytes of an integer of this width.
     pub fn bytes(self) -> usize
         ensures exact { result ≡ width_bytes self }
         ensures some { 1 ≤ result }
@@ -31,16 +31,17 @@ impl IntegerWidth {
     }
 }
 
-/// Whether an integer type has numbers below 0.
+/// The signedness of an integer type.
 #[derive(Clone, Copy, Debug, PartialEq, Eq)]
 pub enum Signedness {
-    /// It has none.
+    /// It has no numbers below 0.
     Unsigned,
-    /// It has, in two's complement.
+    /// It has numbers below 0, in two's complement.
     Signed,
 }
 
-/// What kind of type a primitive is: what its values are and how their bytes are read (SCALE codec specification).
+/// The kind of a primitive type: what its values are and how their bytes are read (SCALE codec
+/// specification).
 #[derive(Clone, Copy, Debug, PartialEq, Eq)]
 pub enum PrimitiveKind {
     /// A boolean: one byte.
@@ -49,10 +50,10 @@ pub enum PrimitiveKind {
     Char,
     /// A text: its length in bytes as a compact integer, and then its UTF-8.
     Str,
-    /// An integer from 0, of at most 128 bits.
+    /// An unsigned integer of at most 128 bits.
     Unsigned(IntegerWidth),
-    /// An integer in two's complement, of at most 128 bits.
+    /// A signed integer of at most 128 bits, in two's complement.
     Signed(IntegerWidth),
-    /// An integer of 256 bits: 32 bytes, which are kept as they are.
+    /// An integer of 256 bits: 32 bytes, which are kept unchanged.
     Wide(Signedness),
 }

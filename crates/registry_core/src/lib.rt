@@ -1,5 +1,7 @@
-//! Type registries in their portable form: the types of scale-info, read off bytes with the first fault and its place,
-//! and written in their one spelling.
+//! Type registries of scale-info in their portable form.
+//!
+//! A registry is read from bytes, with the first error and its place, and written in its one
+//! encoding.
 #![tactic(auto)]
 
 mod definition;

@@ -1,10 +1,11 @@
-//! The types that are made of no others.
+//! The primitive types.
 
 ghost use Rattle.std.specs.Prelude.{◌≡◌, slice_get};
 
 use crate::kind::{IntegerWidth, PrimitiveKind, Signedness};
 
-/// A primitive type (scale-info, `TypeDefPrimitive`), in the order of the bytes that spell them, from 0.
+/// A primitive type (scale-info, `TypeDefPrimitive`). The variants are in the order of their bytes,
+/// from 0.
 #[derive(Clone, Copy, Debug, PartialEq, Eq)]
 pub enum Primitive {
     /// A boolean.
@@ -31,7 +32,7 @@ impl Primitive {
     ghost use Rattle.registry_core.specs.Bytes.{primitives, primitive_byte};
     ghost use Rattle.registry_core.specs.Kinds.{kind_of};
 
-    /// What kind of type this primitive is.
+    /// Returns the kind of this primitive.
     pub fn kind(self) -> PrimitiveKind
         ensures { result ≡ kind_of self }
     {
@@ -54,7 +55,7 @@ impl Primitive {
         }
     }
 
-    /// The primitive of this byte, and none for a byte above `0e`.
+    /// Returns the primitive with this byte, or `None` if the byte is above `0e`.
     pub(crate) fn from_byte(byte: u8) -> Option<Primitive>
         ensures { result ≡ slice_get primitives byte }
     {
@@ -78,7 +79,7 @@ impl Primitive {
         }
     }
 
-    /// The byte that spells this primitive.
+    /// Returns the byte of this primitive.
     pub(crate) fn to_byte(self) -> u8
         ensures { result ≡ primitive_byte self }
     {

@@ -25,7 +25,11 @@ use read_stop::ReadStop;
 use std::alloc::Global;
 use types::types_of;
 
-/// A registry: how many types, and the types.
+/// Reads a registry: the number of types, and the types. Returns it with the bytes after it.
+///
+/// # Errors
+///
+/// Those of [`read_registry`], as a [`ReadStop`].
 #[tactic(auto, unfolding(crate::specs::Reading::registry_at))]
 fn registry_of(alloc: Global, bytes: &[u8]) -> Result<(Registry, &[u8]), ReadStop<'_>>
     ensures { Gives (λ x. (x.0, x.1.now)) result (registry_at bytes.now) }
@@ -35,7 +39,12 @@ fn registry_of(alloc: Global, bytes: &[u8]) -> Result<(Registry, &[u8]), ReadSto
     Ok((Registry::from_types(types), rest))
 }
 
-/// A registry after the prefix of metadata, and the version that the prefix reports.
+/// Reads the registry after the prefix of metadata. Returns it with the version in the prefix and
+/// the bytes after it.
+///
+/// # Errors
+///
+/// Those of [`read_metadata`], as a [`ReadStop`].
 #[tactic(auto, unfolding(crate::specs::Reading::metadata_at))]
 fn metadata_of(alloc: Global, bytes: &[u8]) -> Result<(Registry, Version, &[u8]), ReadStop<'_>>
     ensures { Gives (λ x. ((x.0, x.1), x.2.now)) result (metadata_at bytes.now) }
@@ -45,29 +54,37 @@ fn metadata_of(alloc: Global, bytes: &[u8]) -> Result<(Registry, Version, &[u8])
     Ok((registry, version, rest))
 }
 
-/// Reads a registry off the front of the bytes, and answers it with how many bytes it took
-/// (scale-info, `PortableRegistry` in its portable form). What follows is not read.
+/// Reads a registry from the start of `bytes`, and returns it with the number of bytes that it took
+/// (scale-info, `PortableRegistry` in its portable form).
 ///
-/// It takes one pass from left to right. Lists grow with the elements that were read, whatever length is claimed, and
-/// have no room to spare once they are whole; each text is copied once.
+/// Bytes after the registry are not read. Lists grow with the elements that were read, whatever
+/// length is claimed, and have no spare capacity when they are complete.
 ///
-/// Refuses at the first fault from the left, with its place in bytes from the front of the input:
-/// - `Truncated`, at the input's length, where the bytes end inside the registry;
-/// - `CompactTooLarge`, at the first byte of a length or an id, where that byte alone claims more than four bytes of
-///   value, as `07` does, whatever follows and also where nothing does; or where the value is above 4294967295;
-/// - `CompactNotShortest`, at the first byte of another length or id that is spelled longer than its value needs;
-/// - `BadUtf8`, at the first byte past the longest valid front of a text that is there whole;
-/// - `BadOption`, at an option's byte that is neither `00` nor `01`;
-/// - `BadDefinition`, at a definition's byte above `07`, and `BadPrimitive`, at a primitive's byte above `0e`;
-/// - `IdOutOfPlace`, at the first byte of a type's id that is not the type's position, before the type after it.
+/// # Errors
 ///
-/// Where memory is refused the answer is `OutOfMemory` at 0. After a refusal nothing is kept.
+/// The first error from the left, with its place in bytes from the start of `bytes`; nothing is
+/// kept.
+///
+/// - `Truncated`, at the length of `bytes`, if they end inside the registry.
+/// - `CompactTooLarge`, at the first byte of a length or an id, if it claims more than four bytes
+///   of value, as `07` does. This holds whatever follows, and if nothing follows.
+/// - `CompactTooLarge`, at the same place, if the value is above 4294967295.
+/// - `CompactNotShortest`, at the first byte of any other length or id that is longer than its
+///   value needs.
+/// - `BadUtf8`, at the first byte after the longest valid prefix of a complete text.
+/// - `BadOption`, at an option's byte that is neither `00` nor `01`.
+/// - `BadDefinition`, at a definition's byte above `07`.
+/// - `BadPrimitive`, at a primitive's byte above `0e`.
+/// - `IdOutOfPlace`, at the first byte of a type's id that is not the type's position. It comes
+///   before any error in the type itself.
+/// - `OutOfMemory`, at 0, if an allocation fails.
+// It takes one pass from left to right, and copies each text once.
 pub fn read_registry(alloc: Global, bytes: &[u8]) -> Result<(Registry, usize), RegistryFault>
-    // Which registry or fault it is.
+    // The registry, or the error.
     ensures exact { RegistryAnswers bytes.now result (registry_at bytes.now) }
-    // What is read is spelled by the bytes that it took.
+    // What is read is encoded by the bytes that it took.
     ensures found { IfOk result (λ x. FitsRegistry x.0 × (take x.1 bytes.now ≡ spelling x.0)) }
-    // What is spelled is read, whatever follows it.
+    // What is encoded is read, whatever follows it.
     ensures only { (types : List TypeInfo) (rest : List ℕ)
         → FitsRegistry types
         → bytes.now ≡ spelling types ++ rest
@@ -79,26 +96,31 @@ pub fn read_registry(alloc: Global, bytes: &[u8]) -> Result<(Registry, usize), R
     }
 }
 
-/// Reads the registry of metadata (Substrate, `RuntimeMetadataPrefixed`), and answers it with how many bytes it and the
-/// prefix took, and with the version. Version 14 begins `6d 65 74 61 0e` and version 15 `6d 65 74 61 0f`; in both the
-/// registry follows at once. What follows it is not read.
+/// Reads the registry of metadata, and returns it with the number of bytes that it and the prefix
+/// took, and the version (Substrate, `RuntimeMetadataPrefixed`).
 ///
-/// Refuses, in this order:
-/// - `NotMetadata`, at the first of the first four bytes that is there and differs;
-/// - `Truncated`, at the input's length, where fewer than five bytes are there;
-/// - `WrongVersion`, at 4, where the fifth byte is neither `0e` nor `0f`;
-/// - what `read_registry` refuses after the prefix, with places counted from the front of the input.
+/// Version 14 begins with `6d 65 74 61 0e` and version 15 with `6d 65 74 61 0f`. In both the
+/// registry follows immediately. Bytes after the registry are not read.
 ///
-/// Where memory is refused the answer is `OutOfMemory` at 0. After a refusal nothing is kept.
+/// # Errors
+///
+/// The first that applies; nothing is kept.
+///
+/// - `NotMetadata`, at the first of the first four bytes that is present and differs from `meta`.
+/// - `Truncated`, at the length of `bytes`, if it is less than five.
+/// - `WrongVersion`, at 4, if the fifth byte is neither `0e` nor `0f`.
+/// - The errors of [`read_registry`] after the prefix, with places in bytes from the start of
+///   `bytes`.
+/// - `OutOfMemory`, at 0, if an allocation fails.
 pub fn read_metadata(
     alloc: Global,
     bytes: &[u8],
 ) -> Result<(Registry, usize, Version), RegistryFault>
-    // Which registry and version, or which fault it is.
+    // The registry and the version, or the error.
     ensures exact { MetadataAnswers bytes.now result (metadata_at bytes.now) }
-    // What is read is spelled by the bytes that it took.
+    // What is read is encoded by the bytes that it took.
     ensures found { IfOk result (λ x. FitsRegistry x.0 × (take x.1 bytes.now ≡ metadata x.2 x.0)) }
-    // What is spelled is read, whatever follows it.
+    // What is encoded is read, whatever follows it.
     ensures only { (types : List TypeInfo) (version : AVersion) (rest : List ℕ)
         → FitsRegistry types
         → bytes.now ≡ metadata version types ++ rest

@@ -7,7 +7,8 @@ use std::marker::Model;
 
 /// The types of a registry, each at the position that is its id (scale-info, `PortableRegistry`).
 ///
-/// Each has a spelling: a list has at most 4294967295 elements, and a text at most 4294967295 bytes, which are UTF-8.
+/// Every registry has an encoding: a list has at most 4294967295 elements, and a text at most
+/// 4294967295 bytes, which are UTF-8.
 #[derive(Debug, Drop)]
 pub struct Registry {
     types: Vec<TypeInfo>,
@@ -29,7 +30,7 @@ impl Model for Registry {
 impl Registry {
     ghost use Rattle.registry_core.specs.Fits.{FitsRegistry};
 
-    /// The registry of types that have a spelling.
+    /// Creates a registry of types that have an encoding.
     pub(crate) fn from_types(types: Vec<TypeInfo>) -> Registry
         requires { FitsRegistry types.items }
         ensures { result ≡ types.items }
@@ -37,7 +38,7 @@ impl Registry {
         Registry { types }
     }
 
-    /// The types in order, lent: the type at position i has the id i.
+    /// Returns the types in order. The type at position i has the id i.
     pub fn types(&self) -> &[TypeInfo]
         ensures same { result.now ≡ self.now }
         ensures fits { FitsRegistry self.now }

@@ -24,14 +24,14 @@ impl Model for Text {
 impl Text {
     ghost use Rattle.std.specs.String.{string_bytes};
 
-    /// The text of this `String`, whose memory it keeps.
+    /// Creates a text from a `String`, and keeps its memory.
     pub fn from_string(string: String) -> Text
         ensures { result ≡ string_bytes string }
     {
         Text { text: string }
     }
 
-    /// The `String` that it was made of, or one of the same bytes.
+    /// Returns the text as a `String`: the one that it was created from, or an equal one.
     pub fn into_string(self) -> String
         ensures { string_bytes result ≡ self }
     {
@@ -39,7 +39,7 @@ impl Text {
         text
     }
 
-    /// The text, lent.
+    /// Returns the text as a string slice.
     pub fn as_str(&self) -> &str
         ensures same { result.now ≡ self.now }
         ensures utf8 { is_utf8 self.now ≡ true }
@@ -47,14 +47,14 @@ impl Text {
         self.text.as_str()
     }
 
-    /// How many bytes it has.
+    /// Returns the number of bytes.
     pub fn len(&self) -> usize
         ensures { result ≡ length self.now }
     {
         self.text.len()
     }
 
-    /// Does it have no byte?
+    /// Returns whether there are no bytes.
     pub fn is_empty(&self) -> bool
         ensures { result ≡ (length self.now == 0) }
     {

@@ -1,4 +1,4 @@
-//! How types refer to each other.
+//! References from one type to another.
 
 /// The position of a type in its registry, counted from 0.
 #[derive(Clone, Copy, Debug, PartialEq, Eq)]

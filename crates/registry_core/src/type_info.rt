@@ -9,17 +9,17 @@ use crate::type_id::TypeId;
 #[derive(Debug, Drop)]
 pub struct Param {
     pub name: Text,
-    /// The type that stands for it, where there is one.
+    /// The type that is substituted for it, if there is one.
     pub ty: Option<TypeId>,
 }
 
-/// A type: its name, what stands for its parameters, what it is made of, and its documentation (scale-info, `Type`).
+/// A type: its name, its parameters, its definition and its documentation (scale-info, `Type`).
 #[derive(Debug, Drop)]
 pub struct TypeInfo {
-    /// The modules around it and its own name; empty for a type without a name, as a tuple.
+    /// The modules around it and its own name; empty for a type without a name, such as a tuple.
     pub path: Items<Text>,
     pub params: Items<Param>,
     pub shape: TypeDef,
-    /// Its documentation, a text for each line.
+    /// Its documentation, one text for each line.
     pub docs: Items<Text>,
 }

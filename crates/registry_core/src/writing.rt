@@ -1,4 +1,4 @@
-//! Registries, written in their one spelling.
+//! Registries, written in their one encoding.
 
 ghost use Rattle.std.specs.Prelude.{◌≡◌, ◌<◌, ◌++◌, OnOk, IfOk};
 ghost use Rattle.registry_core.specs.Fits.{FitsText, FitsTexts, FitsOption, FitsList, FitsParam};
@@ -16,6 +16,10 @@ use scale_core::{write_compact, write_text, write_u32};
 use std::alloc::{AllocError, Global};
 
 /// Appends a text.
+///
+/// # Errors
+///
+/// `AllocError` if an allocation fails; `out` may then end with a part of the encoding.
 fn put_text(out: &mut Vec<u8>, value: &Text) -> Result<(), AllocError>
     requires { FitsText value.now }
     ensures { OnOk result (out.new.items ≡ out.old.items ++ text value.now) }
@@ -23,7 +27,11 @@ fn put_text(out: &mut Vec<u8>, value: &Text) -> Result<(), AllocError>
     write_text(out, value.as_str())
 }
 
-/// Appends a text that may be left out.
+/// Appends a text, which may be absent.
+///
+/// # Errors
+///
+/// Those of [`put_text`].
 fn put_optional_text(out: &mut Vec<u8>, value: &Option<Text>) -> Result<(), AllocError>
     requires { FitsOption FitsText value.now }
     ensures { OnOk result (out.new.items ≡ out.old.items ++ option text value.now) }
@@ -38,7 +46,11 @@ fn put_optional_text(out: &mut Vec<u8>, value: &Option<Text>) -> Result<(), Allo
     Ok(())
 }
 
-/// Appends texts: how many, and one after the other.
+/// Appends texts: their number, and each in turn.
+///
+/// # Errors
+///
+/// Those of [`put_text`].
 fn put_texts(out: &mut Vec<u8>, values: &Items<Text>) -> Result<(), AllocError>
     requires { FitsTexts values.now }
     ensures { OnOk result (out.new.items ≡ out.old.items ++ texts values.now) }
@@ -51,13 +63,21 @@ fn put_texts(out: &mut Vec<u8>, values: &Items<Text>) -> Result<(), AllocError>
 }
 
 /// Appends the position of a type.
+///
+/// # Errors
+///
+/// Those of [`put_text`].
 fn put_type_id(out: &mut Vec<u8>, id: TypeId) -> Result<(), AllocError>
     ensures { OnOk result (out.new.items ≡ out.old.items ++ type_id id) }
 {
     write_compact(out, u128::from(id.0))
 }
 
-/// Appends the position of a type, which may be left out.
+/// Appends the position of a type, which may be absent.
+///
+/// # Errors
+///
+/// Those of [`put_text`].
 fn put_optional_type_id(out: &mut Vec<u8>, id: Option<TypeId>) -> Result<(), AllocError>
     ensures { OnOk result (out.new.items ≡ out.old.items ++ option type_id id) }
 {
@@ -71,7 +91,11 @@ fn put_optional_type_id(out: &mut Vec<u8>, id: Option<TypeId>) -> Result<(), All
     Ok(())
 }
 
-/// Appends the positions of types: how many, and one after the other.
+/// Appends the positions of types: their number, and each in turn.
+///
+/// # Errors
+///
+/// Those of [`put_text`].
 fn put_type_ids(out: &mut Vec<u8>, ids: &Items<TypeId>) -> Result<(), AllocError>
     ensures { OnOk result (out.new.items ≡ out.old.items ++ sequence type_id ids.now) }
 {
@@ -83,6 +107,10 @@ fn put_type_ids(out: &mut Vec<u8>, ids: &Items<TypeId>) -> Result<(), AllocError
 }
 
 /// Appends a parameter.
+///
+/// # Errors
+///
+/// Those of [`put_text`].
 fn put_param(out: &mut Vec<u8>, value: &Param) -> Result<(), AllocError>
     requires { FitsParam value.now }
     ensures { OnOk result (out.new.items ≡ out.old.items ++ param value.now) }
@@ -91,7 +119,11 @@ fn put_param(out: &mut Vec<u8>, value: &Param) -> Result<(), AllocError>
     put_optional_type_id(out, value.ty)
 }
 
-/// Appends parameters: how many, and one after the other.
+/// Appends parameters: their number, and each in turn.
+///
+/// # Errors
+///
+/// Those of [`put_text`].
 fn put_params(out: &mut Vec<u8>, values: &Items<Param>) -> Result<(), AllocError>
     requires { FitsList FitsParam values.now }
     ensures { OnOk result (out.new.items ≡ out.old.items ++ sequence param values.now) }
@@ -104,6 +136,10 @@ fn put_params(out: &mut Vec<u8>, values: &Items<Param>) -> Result<(), AllocError
 }
 
 /// Appends a field.
+///
+/// # Errors
+///
+/// Those of [`put_text`].
 fn put_field(out: &mut Vec<u8>, value: &Field) -> Result<(), AllocError>
     requires { FitsField value.now }
     ensures { OnOk result (out.new.items ≡ out.old.items ++ field value.now) }
@@ -114,7 +150,11 @@ fn put_field(out: &mut Vec<u8>, value: &Field) -> Result<(), AllocError>
     put_texts(out, &value.docs)
 }
 
-/// Appends fields: how many, and one after the other.
+/// Appends fields: their number, and each in turn.
+///
+/// # Errors
+///
+/// Those of [`put_text`].
 fn put_fields(out: &mut Vec<u8>, values: &Items<Field>) -> Result<(), AllocError>
     requires { FitsList FitsField values.now }
     ensures { OnOk result (out.new.items ≡ out.old.items ++ sequence field values.now) }
@@ -127,6 +167,10 @@ fn put_fields(out: &mut Vec<u8>, values: &Items<Field>) -> Result<(), AllocError
 }
 
 /// Appends an arm.
+///
+/// # Errors
+///
+/// Those of [`put_text`].
 fn put_arm(out: &mut Vec<u8>, value: &Arm) -> Result<(), AllocError>
     requires { FitsArm value.now }
     ensures { OnOk result (out.new.items ≡ out.old.items ++ arm value.now) }
@@ -137,7 +181,11 @@ fn put_arm(out: &mut Vec<u8>, value: &Arm) -> Result<(), AllocError>
     put_texts(out, &value.docs)
 }
 
-/// Appends arms: how many, and one after the other.
+/// Appends arms: their number, and each in turn.
+///
+/// # Errors
+///
+/// Those of [`put_text`].
 fn put_arms(out: &mut Vec<u8>, values: &Items<Arm>) -> Result<(), AllocError>
     requires { FitsList FitsArm values.now }
     ensures { OnOk result (out.new.items ≡ out.old.items ++ sequence arm values.now) }
@@ -150,6 +198,10 @@ fn put_arms(out: &mut Vec<u8>, values: &Items<Arm>) -> Result<(), AllocError>
 }
 
 /// Appends a definition: its byte, and what follows it.
+///
+/// # Errors
+///
+/// Those of [`put_text`].
 fn put_definition(out: &mut Vec<u8>, value: &TypeDef) -> Result<(), AllocError>
     requires { FitsDefinition value.now }
     ensures { OnOk result (out.new.items ≡ out.old.items ++ definition value.now) }
@@ -194,6 +246,10 @@ fn put_definition(out: &mut Vec<u8>, value: &TypeDef) -> Result<(), AllocError>
 }
 
 /// Appends a type, without its id.
+///
+/// # Errors
+///
+/// Those of [`put_text`].
 fn put_type_info(out: &mut Vec<u8>, value: &TypeInfo) -> Result<(), AllocError>
     requires { FitsType value.now }
     ensures { OnOk result (out.new.items ≡ out.old.items ++ type_info value.now) }
@@ -204,9 +260,12 @@ fn put_type_info(out: &mut Vec<u8>, value: &TypeInfo) -> Result<(), AllocError>
     put_texts(out, &value.docs)
 }
 
-/// The one spelling of the registry, without a prefix (scale-info, `PortableRegistry` in its portable form).
+/// Returns the one encoding of a registry, without a prefix (scale-info, `PortableRegistry` in its
+/// portable form).
 ///
-/// Where memory is refused nothing is kept, and the registry is as it was.
+/// # Errors
+///
+/// `AllocError` if an allocation fails; nothing is kept.
 #[tactic(auto, unfolding(crate::specs::Spelling::spelling))]
 pub fn write_registry(alloc: Global, registry: &Registry) -> Result<Vec<u8>, AllocError>
     ensures { IfOk result (λ bytes. bytes.items ≡ spelling registry.now) }

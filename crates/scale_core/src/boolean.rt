@@ -9,10 +9,13 @@ use crate::fault::{Fault, Reason};
 use crate::integer::read_u8;
 use std::alloc::AllocError;
 
-/// Reads a boolean off the front of the bytes, and answers it with its length, 1
-/// (SCALE codec specification, "Boolean").
+/// Reads a boolean from the start of `bytes`, and returns it with its length, 1 (SCALE codec
+/// specification, "Boolean").
 ///
-/// Refuses no bytes at all as `Truncated` at their length, 0, and a byte other than `00` and `01` as `BadBool` at 0.
+/// # Errors
+///
+/// - `Truncated` at 0 if `bytes` is empty.
+/// - `BadBool` at 0 if the first byte is neither `00` nor `01`.
 pub fn read_bool(bytes: &[u8]) -> Result<(bool, usize), Fault>
     ensures { Answers (λ x. x) bytes.now result (bool_at bytes.now) }
 {
@@ -27,7 +30,11 @@ pub fn read_bool(bytes: &[u8]) -> Result<(bool, usize), Fault>
     }
 }
 
-/// Appends the boolean's byte. Where memory is refused the vector stays as it was.
+/// Appends the byte of a boolean.
+///
+/// # Errors
+///
+/// `AllocError` if the allocation fails; the elements of `out` are unchanged.
 pub fn write_bool(out: &mut Vec<u8>, value: bool) -> Result<(), AllocError>
     ensures ok { OnOk result (out.new.items ≡ out.old.items ++ bool_byte value ∷ []) }
     ensures err { OnErr result (out.new.items ≡ out.old.items) }

@@ -1,4 +1,4 @@
-//! Characters: four bytes, the lowest first, of a Unicode scalar value.
+//! Characters: the four bytes of a Unicode scalar value, in little-endian order.
 
 ghost use Rattle.std.specs.Prelude.{◌≡◌, ◌++◌, OnOk, OnErr};
 ghost use Rattle.scale_core.specs.Answers.{Answers};
@@ -9,10 +9,13 @@ use crate::fault::{Fault, Reason};
 use crate::integer::{read_u32, write_u32};
 use std::alloc::AllocError;
 
-/// Reads a character off the front of the bytes, and answers it with its length, 4 (Unicode Standard, D76).
+/// Reads a character from the start of `bytes`, and returns it with its length, 4 (Unicode
+/// Standard, D76).
 ///
-/// Refuses fewer than four bytes as `Truncated` at their length, and a number that is a surrogate or above
-/// 10ffff as `BadChar` at 0.
+/// # Errors
+///
+/// - `Truncated` at the length of `bytes` if it has fewer than four.
+/// - `BadChar` at 0 if the number is a surrogate or above `10ffff`.
 pub fn read_char(bytes: &[u8]) -> Result<(char, usize), Fault>
     ensures { Answers (λ x. x) bytes.now result (char_at bytes.now) }
 {
@@ -26,7 +29,11 @@ pub fn read_char(bytes: &[u8]) -> Result<(char, usize), Fault>
     }
 }
 
-/// Appends the character's four bytes. Where memory is refused the vector stays as it was.
+/// Appends the four bytes of a character.
+///
+/// # Errors
+///
+/// `AllocError` if the allocation fails; the elements of `out` are unchanged.
 pub fn write_char(out: &mut Vec<u8>, value: char) -> Result<(), AllocError>
     ensures ok { OnOk result (out.new.items ≡ out.old.items ++ le_bytes 4 value) }
     ensures err { OnErr result (out.new.items ≡ out.old.items) }

@@ -1,5 +1,7 @@
-//! Compact integers: the fewest bytes in one of four modes, which the two low bits of the first byte name
-//! (SCALE codec specification, "Compact/general integers").
+//! Compact integers (SCALE codec specification, "Compact/general integers").
+//!
+//! The two low bits of the first byte name one of four modes. A value is encoded in the mode that
+//! takes the fewest bytes.
 
 ghost use Rattle.std.specs.Prelude.{◌≡◌, ◌≢◌, ◌+◌, ◌*◌, ◌/◌, ◌%◌, ◌^◌, ◌<◌, ◌≤◌, ◌++◌, ◌∷◌};
 ghost use Rattle.std.specs.Prelude.{nat_lt, ◌==◌, length, take, drop, MatchResult};
@@ -13,7 +15,8 @@ use crate::fault::{Fault, Reason};
 use crate::integer::front;
 use std::alloc::AllocError;
 
-/// What a compact integer stands for: an unsigned integer of this width, or `Unit`, which takes no bytes.
+/// The type that a compact integer stands for: an unsigned integer of this width, or `Unit`, which
+/// takes no bytes.
 #[derive(Clone, Copy, Debug, PartialEq, Eq)]
 pub enum Target {
     Unit,
@@ -25,7 +28,7 @@ pub enum Target {
 }
 
 impl Target {
-    /// The number of bytes of the integer that is stood for, 0 for `Unit`.
+    /// Returns the number of bytes of the integer type, 0 for `Unit`.
     pub fn bytes(self) -> usize
         ensures exact { result ≡ target_bytes self }
         ensures bound { result ≤ 16 }
@@ -40,7 +43,7 @@ impl Target {
         }
     }
 
-    /// Is the value one of the target's? `Unit` has 0 alone.
+    /// Returns whether the value is in the range of the type. `Unit` has only the value 0.
     pub fn holds(self, value: u128) -> bool
         ensures { result ≡ nat_lt value (256 ^ target_bytes self) }
     {
@@ -55,7 +58,7 @@ impl Target {
     }
 }
 
-/// The number that at most sixteen bytes spell.
+/// Returns the number that at most sixteen bytes encode, in little-endian order.
 fn number_of(spelled: &[u8]) -> u128
     requires { length spelled.now ≤ 16 }
     ensures { result ≡ number spelled.now }
@@ -65,7 +68,11 @@ fn number_of(spelled: &[u8]) -> u128
     u128::from_le_bytes(padded)
 }
 
-/// The number in the `count` bytes after the first one.
+/// Returns the number in the `count` bytes after the first one.
+///
+/// # Errors
+///
+/// `Truncated` at the length of `bytes` if fewer than `count` bytes follow the first one.
 fn number_after_first(bytes: &[u8], count: usize) -> Result<u128, Fault>
     requires { count ≤ 16 }
     ensures { MatchResult result
@@ -81,8 +88,14 @@ fn number_after_first(bytes: &[u8], count: usize) -> Result<u128, Fault>
     }
 }
 
-/// The answer for a mode that is there whole: its number with its length, if no shorter mode has that number and the
-/// target holds it.
+/// Returns the number of a complete mode, with its length.
+///
+/// # Errors
+///
+/// The first that applies:
+///
+/// - `CompactNotShortest` at 0 if a shorter mode has the number.
+/// - `CompactTooLarge` at 0 if the number is above the range of the target.
 #[inline(always)]
 fn judge(
     target: Target,
@@ -112,7 +125,12 @@ fn judge(
     Ok((number, len))
 }
 
-/// Reads the fourth mode, whose first byte has in its upper six bits how many bytes come after it, less four.
+/// Reads the fourth mode. The upper six bits of its first byte are the number of bytes after it,
+/// less four.
+///
+/// # Errors
+///
+/// Those of [`read_compact`].
 fn read_long(bytes: &[u8], first: u8, target: Target) -> Result<(u128, usize), Fault>
     requires front { bytes.now ≡ first ∷ drop 1 bytes.now }
     requires long { first % 4 ≡ 3 }
@@ -133,14 +151,22 @@ fn read_long(bytes: &[u8], first: u8, target: Target) -> Result<(u128, usize), F
     judge(target, number, count + 1, compact_len(number) == count + 1)
 }
 
-/// Reads a compact integer off the front of the bytes, and answers its value with its length, 1 to 17 bytes
-/// (SCALE codec specification, "Compact/general integers"). Only the one spelling of each value is accepted.
-/// Where the target is `Unit` the answer is 0 with the length 0, and nothing is read.
+/// Reads a compact integer from the start of `bytes`, and returns its value with its length, 1 to
+/// 17 bytes (SCALE codec specification, "Compact/general integers").
 ///
-/// Refuses, in this order: no bytes at all as `Truncated` at 0; a first byte that claims more bytes than the target
-/// has as `CompactTooLarge` at 0, whatever follows; fewer bytes than the first one names as `Truncated` at their
-/// length; a mode longer than its value needs as `CompactNotShortest` at 0; and a value past the target's range as
-/// `CompactTooLarge` at 0.
+/// Only the one encoding of each value is accepted. If the target is `Unit`, it returns 0 with the
+/// length 0, and reads nothing.
+///
+/// # Errors
+///
+/// The first that applies:
+///
+/// - `Truncated` at 0 if `bytes` is empty.
+/// - `CompactTooLarge` at 0 if the first byte claims more bytes than the target has, whatever
+///   follows.
+/// - `Truncated` at the length of `bytes` if it has fewer than the first byte claims.
+/// - `CompactNotShortest` at 0 if the mode is longer than the value needs.
+/// - `CompactTooLarge` at 0 if the value is above the range of the target.
 pub fn read_compact(bytes: &[u8], target: Target) -> Result<(u128, usize), Fault>
     ensures reads { Answers (λ x. x) bytes.now result (compact_at target bytes.now) }
     ensures fits { IfOk result (λ x. x.0 < 256 ^ target_bytes target) }
@@ -152,7 +178,8 @@ pub fn read_compact(bytes: &[u8], target: Target) -> Result<(u128, usize), Fault
         return Ok((0, 0));
     }
     let [first] = front::<1>(bytes)?;
-    // The two low bits name the mode: one, two or four bytes, whose upper bits are the number, or a count of bytes.
+    // The two low bits name the mode: one, two or four bytes whose upper bits are the number, or a
+    // count of bytes.
     match first % 4 {
         // One byte is the shortest mode of its number, which fits every target.
         0 => Ok((u128::from(first / 4), 1)),
@@ -168,7 +195,8 @@ pub fn read_compact(bytes: &[u8], target: Target) -> Result<(u128, usize), Fault
     }
 }
 
-/// How many bytes the fourth mode has after the first one, for a value that needs that mode.
+/// Returns the number of bytes after the first one in the fourth mode, for a value that needs that
+/// mode.
 fn big_bytes(value: u128) -> usize
     requires { 2 ^ 30 ≤ value }
     ensures exact { result ≡ big_bytes value }
@@ -178,8 +206,10 @@ fn big_bytes(value: u128) -> usize
     value.ilog2() as usize / 8 + 1
 }
 
-/// How many bytes the compact integer of this value takes: 1, 2 or 4 below 2^6, 2^14 or 2^30, and else one more than
-/// the value itself needs, at most 17.
+/// Returns the length in bytes of the compact integer of this value.
+///
+/// It is 1, 2 or 4 for a value below 2^6, 2^14 or 2^30. For any other value it is one more than the
+/// value itself needs, at most 17.
 pub fn compact_len(value: u128) -> usize
     ensures exact { result ≡ length (compact value) }
     ensures bound { result ≤ 17 }
@@ -192,7 +222,8 @@ pub fn compact_len(value: u128) -> usize
     }
 }
 
-/// Puts the fourth mode of a value that needs it at the front of the array, and answers its length.
+/// Writes the fourth mode of a value that needs it to the start of the array, and returns its
+/// length in bytes.
 fn put_big(value: u128, out: &mut [u8; 17]) -> usize
     requires { 2 ^ 30 ≤ value }
     ensures len { result ≡ length (compact value) }
@@ -205,8 +236,8 @@ fn put_big(value: u128, out: &mut [u8; 17]) -> usize
     count + 1
 }
 
-/// Puts the compact integer of this value at the front of the array, and answers its length, 1 to 17 bytes. The rest
-/// of the array stays as it was.
+/// Writes the compact integer of this value to the start of the array, and returns its length, 1 to
+/// 17 bytes. The rest of the array is unchanged.
 pub fn put_compact(value: u128, out: &mut [u8; 17]) -> usize
     ensures len { result ≡ length (compact value) }
     ensures bound { result ≤ 17 }
@@ -229,7 +260,11 @@ pub fn put_compact(value: u128, out: &mut [u8; 17]) -> usize
     }
 }
 
-/// Appends the compact integer of this value, 1 to 17 bytes. Where memory is refused the vector stays as it was.
+/// Appends the compact integer of this value, 1 to 17 bytes.
+///
+/// # Errors
+///
+/// `AllocError` if the allocation fails; the elements of `out` are unchanged.
 pub fn write_compact(out: &mut Vec<u8>, value: u128) -> Result<(), AllocError>
     ensures ok { OnOk result (out.new.items ≡ out.old.items ++ compact value) }
     ensures err { OnErr result (out.new.items ≡ out.old.items) }

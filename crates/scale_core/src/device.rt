@@ -1,17 +1,21 @@
-//! One call of a reader or a writer, as a thing that contracts can name.
+//! One call of a reader or a writer, in a form that contracts can cite.
 
 ghost use Rattle.std.specs.Prelude.{ℕ, List, Option, ◌≤◌, length, IfSome};
 ghost use Rattle.scale_core.specs.Stream.{GivesBytes, TakesBytes};
 
 use std::io::{Read, Write};
 
-/// A reader with its read as a relation, `reads`, of which nothing else is known: a contract that cites it for a state
-/// before and a state after says that one read leads from the one to the other. Every reader is one.
+/// A reader whose reads are a relation, `reads`. Every reader implements this trait.
+///
+/// A contract that cites the relation for two states says that one read leads from the first to the
+/// second. Nothing else is known of the relation.
 pub trait ReadOnce: Read {
-    /// The reader and the part before a read, how many bytes it gave, if it answered no error, and both afterwards.
+    /// Relates the reader and the part before a read to both after it. The `Option` is the number
+    /// of bytes read, or `None` after an error.
     ghost reads: { Self → List ℕ → Option ℕ → List ℕ → Self → Type 0 };
 
-    /// One read into the part: how many bytes it gave, or None where the reader answers an error.
+    /// Reads once into the part, and returns the number of bytes read, or `None` if the reader
+    /// returns an error.
     fn read_once(&mut self, part: &mut [u8]) -> Option<usize>
         ensures once { reads self.old part.old result part.new self.new }
         ensures count { IfSome result (λ n. n ≤ length part.new) }
@@ -28,13 +32,17 @@ impl<R: Read> ReadOnce for R {
     }
 }
 
-/// A writer with its write as a relation, `writes`, of which nothing else is known: a contract that cites it for a
-/// state before and a state after says that one write leads from the one to the other. Every writer is one.
+/// A writer whose writes are a relation, `writes`. Every writer implements this trait.
+///
+/// A contract that cites the relation for two states says that one write leads from the first to
+/// the second. Nothing else is known of the relation.
 pub trait WriteOnce: Write {
-    /// The writer before a write, the part, how many bytes it took, if it answered no error, and the writer afterwards.
+    /// Relates the writer before a write, and the part, to the writer after it. The `Option` is the
+    /// number of bytes written, or `None` after an error.
     ghost writes: { Self → List ℕ → Option ℕ → Self → Type 0 };
 
-    /// One write of the part: how many bytes of its front went out, or None where the writer answers an error.
+    /// Writes the part once, and returns how many of its first bytes were written, or `None` if the
+    /// writer returns an error.
     fn write_once(&mut self, part: &[u8]) -> Option<usize>
         ensures once { writes self.old part.now result self.new }
         ensures count { IfSome result (λ n. n ≤ length part.now) }

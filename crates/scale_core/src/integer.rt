@@ -1,5 +1,5 @@
-//! Fixed-width integers: little-endian, two's complement where they are signed
-//! (SCALE codec specification, "Fixed-width integers").
+//! Fixed-width integers: little-endian, and in two's complement if signed (SCALE codec
+//! specification, "Fixed-width integers").
 
 ghost use Rattle.std.specs.Prelude.{◌≡◌, ◌<◌, ◌≤◌, ◌++◌, length, take, MatchResult, OnOk, OnErr};
 ghost use Rattle.scale_core.specs.Answers.{Answers, truncated_fault};
@@ -9,7 +9,11 @@ ghost use Rattle.scale_core.specs.Read.{bytes_at, number_at, signed_at};
 use crate::fault::{Fault, Reason};
 use std::alloc::AllocError;
 
-/// The first N bytes.
+/// Returns the first `N` bytes.
+///
+/// # Errors
+///
+/// `Truncated` at the length of `bytes` if it has fewer.
 pub(crate) fn front<const N: usize>(bytes: &[u8]) -> Result<[u8; N], Fault>
     ensures { MatchResult result
         (λ a. (N ≤ length bytes.now) × (a ≡ take N bytes.now))
@@ -24,9 +28,11 @@ pub(crate) fn front<const N: usize>(bytes: &[u8]) -> Result<[u8; N], Fault>
     }
 }
 
-/// Reads an u8 off the front of the bytes, and answers it with its length, 1.
+/// Reads a u8 from the start of `bytes`, and returns it with its length, 1.
 ///
-/// Refuses fewer than one byte as `Truncated` at their length.
+/// # Errors
+///
+/// `Truncated` at 0 if `bytes` is empty.
 pub fn read_u8(bytes: &[u8]) -> Result<(u8, usize), Fault>
     ensures { Answers (λ x. x) bytes.now result (number_at 1 bytes.now) }
 {
@@ -34,9 +40,11 @@ pub fn read_u8(bytes: &[u8]) -> Result<(u8, usize), Fault>
     Ok((u8::from_le_bytes(spelled), 1))
 }
 
-/// Reads a u16 off the front of the bytes, and answers it with its length, 2.
+/// Reads a u16 from the start of `bytes`, and returns it with its length, 2.
 ///
-/// Refuses fewer than two bytes as `Truncated` at their length.
+/// # Errors
+///
+/// `Truncated` at the length of `bytes` if it has fewer than two.
 pub fn read_u16(bytes: &[u8]) -> Result<(u16, usize), Fault>
     ensures { Answers (λ x. x) bytes.now result (number_at 2 bytes.now) }
 {
@@ -44,9 +52,11 @@ pub fn read_u16(bytes: &[u8]) -> Result<(u16, usize), Fault>
     Ok((u16::from_le_bytes(spelled), 2))
 }
 
-/// Reads a u32 off the front of the bytes, and answers it with its length, 4.
+/// Reads a u32 from the start of `bytes`, and returns it with its length, 4.
 ///
-/// Refuses fewer than four bytes as `Truncated` at their length.
+/// # Errors
+///
+/// `Truncated` at the length of `bytes` if it has fewer than four.
 pub fn read_u32(bytes: &[u8]) -> Result<(u32, usize), Fault>
     ensures { Answers (λ x. x) bytes.now result (number_at 4 bytes.now) }
 {
@@ -54,9 +64,11 @@ pub fn read_u32(bytes: &[u8]) -> Result<(u32, usize), Fault>
     Ok((u32::from_le_bytes(spelled), 4))
 }
 
-/// Reads a u64 off the front of the bytes, and answers it with its length, 8.
+/// Reads a u64 from the start of `bytes`, and returns it with its length, 8.
 ///
-/// Refuses fewer than eight bytes as `Truncated` at their length.
+/// # Errors
+///
+/// `Truncated` at the length of `bytes` if it has fewer than eight.
 pub fn read_u64(bytes: &[u8]) -> Result<(u64, usize), Fault>
     ensures { Answers (λ x. x) bytes.now result (number_at 8 bytes.now) }
 {
@@ -64,9 +76,11 @@ pub fn read_u64(bytes: &[u8]) -> Result<(u64, usize), Fault>
     Ok((u64::from_le_bytes(spelled), 8))
 }
 
-/// Reads a u128 off the front of the bytes, and answers it with its length, 16.
+/// Reads a u128 from the start of `bytes`, and returns it with its length, 16.
 ///
-/// Refuses fewer than sixteen bytes as `Truncated` at their length.
+/// # Errors
+///
+/// `Truncated` at the length of `bytes` if it has fewer than sixteen.
 pub fn read_u128(bytes: &[u8]) -> Result<(u128, usize), Fault>
     ensures { Answers (λ x. x) bytes.now result (number_at 16 bytes.now) }
 {
@@ -74,9 +88,11 @@ pub fn read_u128(bytes: &[u8]) -> Result<(u128, usize), Fault>
     Ok((u128::from_le_bytes(spelled), 16))
 }
 
-/// Reads an i8 off the front of the bytes, and answers it with its length, 1.
+/// Reads an i8 from the start of `bytes`, and returns it with its length, 1.
 ///
-/// Refuses fewer than one byte as `Truncated` at their length.
+/// # Errors
+///
+/// `Truncated` at 0 if `bytes` is empty.
 pub fn read_i8(bytes: &[u8]) -> Result<(i8, usize), Fault>
     ensures { Answers (λ x. x) bytes.now result (signed_at 1 bytes.now) }
 {
@@ -84,9 +100,11 @@ pub fn read_i8(bytes: &[u8]) -> Result<(i8, usize), Fault>
     Ok((number.cast_signed(), len))
 }
 
-/// Reads an i16 off the front of the bytes, and answers it with its length, 2.
+/// Reads an i16 from the start of `bytes`, and returns it with its length, 2.
 ///
-/// Refuses fewer than two bytes as `Truncated` at their length.
+/// # Errors
+///
+/// `Truncated` at the length of `bytes` if it has fewer than two.
 pub fn read_i16(bytes: &[u8]) -> Result<(i16, usize), Fault>
     ensures { Answers (λ x. x) bytes.now result (signed_at 2 bytes.now) }
 {
@@ -94,9 +112,11 @@ pub fn read_i16(bytes: &[u8]) -> Result<(i16, usize), Fault>
     Ok((number.cast_signed(), len))
 }
 
-/// Reads an i32 off the front of the bytes, and answers it with its length, 4.
+/// Reads an i32 from the start of `bytes`, and returns it with its length, 4.
 ///
-/// Refuses fewer than four bytes as `Truncated` at their length.
+/// # Errors
+///
+/// `Truncated` at the length of `bytes` if it has fewer than four.
 pub fn read_i32(bytes: &[u8]) -> Result<(i32, usize), Fault>
     ensures { Answers (λ x. x) bytes.now result (signed_at 4 bytes.now) }
 {
@@ -104,9 +124,11 @@ pub fn read_i32(bytes: &[u8]) -> Result<(i32, usize), Fault>
     Ok((number.cast_signed(), len))
 }
 
-/// Reads an i64 off the front of the bytes, and answers it with its length, 8.
+/// Reads an i64 from the start of `bytes`, and returns it with its length, 8.
 ///
-/// Refuses fewer than eight bytes as `Truncated` at their length.
+/// # Errors
+///
+/// `Truncated` at the length of `bytes` if it has fewer than eight.
 pub fn read_i64(bytes: &[u8]) -> Result<(i64, usize), Fault>
     ensures { Answers (λ x. x) bytes.now result (signed_at 8 bytes.now) }
 {
@@ -114,9 +136,11 @@ pub fn read_i64(bytes: &[u8]) -> Result<(i64, usize), Fault>
     Ok((number.cast_signed(), len))
 }
 
-/// Reads an i128 off the front of the bytes, and answers it with its length, 16.
+/// Reads an i128 from the start of `bytes`, and returns it with its length, 16.
 ///
-/// Refuses fewer than sixteen bytes as `Truncated` at their length.
+/// # Errors
+///
+/// `Truncated` at the length of `bytes` if it has fewer than sixteen.
 pub fn read_i128(bytes: &[u8]) -> Result<(i128, usize), Fault>
     ensures { Answers (λ x. x) bytes.now result (signed_at 16 bytes.now) }
 {
@@ -124,9 +148,12 @@ pub fn read_i128(bytes: &[u8]) -> Result<(i128, usize), Fault>
     Ok((number.cast_signed(), len))
 }
 
-/// Reads the 32 bytes of a u256 or an i256 off the front, as they stand, and answers them with their length, 32.
+/// Reads a u256 or an i256 from the start of `bytes`, and returns its 32 bytes unchanged with their
+/// length, 32.
 ///
-/// Refuses fewer than 32 bytes as `Truncated` at their length.
+/// # Errors
+///
+/// `Truncated` at the length of `bytes` if it has fewer than 32.
 pub fn read_wide(bytes: &[u8]) -> Result<([u8; 32], usize), Fault>
     ensures { Answers (λ x. x) bytes.now result (bytes_at 32 bytes.now) }
 {
@@ -134,7 +161,11 @@ pub fn read_wide(bytes: &[u8]) -> Result<([u8; 32], usize), Fault>
     Ok((spelled, 32))
 }
 
-/// Appends the one byte of a u8. Where memory is refused the vector stays as it was.
+/// Appends the byte of a u8.
+///
+/// # Errors
+///
+/// `AllocError` if the allocation fails; the elements of `out` are unchanged.
 pub fn write_u8(out: &mut Vec<u8>, value: u8) -> Result<(), AllocError>
     ensures ok { OnOk result (out.new.items ≡ out.old.items ++ le_bytes 1 value) }
     ensures err { OnErr result (out.new.items ≡ out.old.items) }
@@ -142,7 +173,11 @@ pub fn write_u8(out: &mut Vec<u8>, value: u8) -> Result<(), AllocError>
     out.extend_from_slice(&u8::to_le_bytes(value))
 }
 
-/// Appends the two bytes of a u16. Where memory is refused the vector stays as it was.
+/// Appends the two bytes of a u16.
+///
+/// # Errors
+///
+/// `AllocError` if the allocation fails; the elements of `out` are unchanged.
 pub fn write_u16(out: &mut Vec<u8>, value: u16) -> Result<(), AllocError>
     ensures ok { OnOk result (out.new.items ≡ out.old.items ++ le_bytes 2 value) }
     ensures err { OnErr result (out.new.items ≡ out.old.items) }
@@ -150,7 +185,11 @@ pub fn write_u16(out: &mut Vec<u8>, value: u16) -> Result<(), AllocError>
     out.extend_from_slice(&u16::to_le_bytes(value))
 }
 
-/// Appends the four bytes of a u32. Where memory is refused the vector stays as it was.
+/// Appends the four bytes of a u32.
+///
+/// # Errors
+///
+/// `AllocError` if the allocation fails; the elements of `out` are unchanged.
 pub fn write_u32(out: &mut Vec<u8>, value: u32) -> Result<(), AllocError>
     ensures ok { OnOk result (out.new.items ≡ out.old.items ++ le_bytes 4 value) }
     ensures err { OnErr result (out.new.items ≡ out.old.items) }
@@ -158,7 +197,11 @@ pub fn write_u32(out: &mut Vec<u8>, value: u32) -> Result<(), AllocError>
     out.extend_from_slice(&u32::to_le_bytes(value))
 }
 
-/// Appends the eight bytes of a u64. Where memory is refused the vector stays as it was.
+/// Appends the eight bytes of a u64.
+///
+/// # Errors
+///
+/// `AllocError` if the allocation fails; the elements of `out` are unchanged.
 pub fn write_u64(out: &mut Vec<u8>, value: u64) -> Result<(), AllocError>
     ensures ok { OnOk result (out.new.items ≡ out.old.items ++ le_bytes 8 value) }
     ensures err { OnErr result (out.new.items ≡ out.old.items) }
@@ -166,7 +209,11 @@ pub fn write_u64(out: &mut Vec<u8>, value: u64) -> Result<(), AllocError>
     out.extend_from_slice(&u64::to_le_bytes(value))
 }
 
-/// Appends the sixteen bytes of a u128. Where memory is refused the vector stays as it was.
+/// Appends the sixteen bytes of a u128.
+///
+/// # Errors
+///
+/// `AllocError` if the allocation fails; the elements of `out` are unchanged.
 pub fn write_u128(out: &mut Vec<u8>, value: u128) -> Result<(), AllocError>
     ensures ok { OnOk result (out.new.items ≡ out.old.items ++ le_bytes 16 value) }
     ensures err { OnErr result (out.new.items ≡ out.old.items) }
@@ -174,7 +221,11 @@ pub fn write_u128(out: &mut Vec<u8>, value: u128) -> Result<(), AllocError>
     out.extend_from_slice(&u128::to_le_bytes(value))
 }
 
-/// Appends the one byte of an i8. Where memory is refused the vector stays as it was.
+/// Appends the byte of an i8.
+///
+/// # Errors
+///
+/// `AllocError` if the allocation fails; the elements of `out` are unchanged.
 pub fn write_i8(out: &mut Vec<u8>, value: i8) -> Result<(), AllocError>
     ensures ok { OnOk result (out.new.items ≡ out.old.items ++ signed_bytes 1 value) }
     ensures err { OnErr result (out.new.items ≡ out.old.items) }
@@ -182,7 +233,11 @@ pub fn write_i8(out: &mut Vec<u8>, value: i8) -> Result<(), AllocError>
     write_u8(out, value.cast_unsigned())
 }
 
-/// Appends the two bytes of an i16. Where memory is refused the vector stays as it was.
+/// Appends the two bytes of an i16.
+///
+/// # Errors
+///
+/// `AllocError` if the allocation fails; the elements of `out` are unchanged.
 pub fn write_i16(out: &mut Vec<u8>, value: i16) -> Result<(), AllocError>
     ensures ok { OnOk result (out.new.items ≡ out.old.items ++ signed_bytes 2 value) }
     ensures err { OnErr result (out.new.items ≡ out.old.items) }
@@ -190,7 +245,11 @@ pub fn write_i16(out: &mut Vec<u8>, value: i16) -> Result<(), AllocError>
     write_u16(out, value.cast_unsigned())
 }
 
-/// Appends the four bytes of an i32. Where memory is refused the vector stays as it was.
+/// Appends the four bytes of an i32.
+///
+/// # Errors
+///
+/// `AllocError` if the allocation fails; the elements of `out` are unchanged.
 pub fn write_i32(out: &mut Vec<u8>, value: i32) -> Result<(), AllocError>
     ensures ok { OnOk result (out.new.items ≡ out.old.items ++ signed_bytes 4 value) }
     ensures err { OnErr result (out.new.items ≡ out.old.items) }
@@ -198,7 +257,11 @@ pub fn write_i32(out: &mut Vec<u8>, value: i32) -> Result<(), AllocError>
     write_u32(out, value.cast_unsigned())
 }
 
-/// Appends the eight bytes of an i64. Where memory is refused the vector stays as it was.
+/// Appends the eight bytes of an i64.
+///
+/// # Errors
+///
+/// `AllocError` if the allocation fails; the elements of `out` are unchanged.
 pub fn write_i64(out: &mut Vec<u8>, value: i64) -> Result<(), AllocError>
     ensures ok { OnOk result (out.new.items ≡ out.old.items ++ signed_bytes 8 value) }
     ensures err { OnErr result (out.new.items ≡ out.old.items) }
@@ -206,7 +269,11 @@ pub fn write_i64(out: &mut Vec<u8>, value: i64) -> Result<(), AllocError>
     write_u64(out, value.cast_unsigned())
 }
 
-/// Appends the sixteen bytes of an i128. Where memory is refused the vector stays as it was.
+/// Appends the sixteen bytes of an i128.
+///
+/// # Errors
+///
+/// `AllocError` if the allocation fails; the elements of `out` are unchanged.
 pub fn write_i128(out: &mut Vec<u8>, value: i128) -> Result<(), AllocError>
     ensures ok { OnOk result (out.new.items ≡ out.old.items ++ signed_bytes 16 value) }
     ensures err { OnErr result (out.new.items ≡ out.old.items) }
@@ -214,7 +281,11 @@ pub fn write_i128(out: &mut Vec<u8>, value: i128) -> Result<(), AllocError>
     write_u128(out, value.cast_unsigned())
 }
 
-/// Appends the 32 bytes of a u256 or an i256. Where memory is refused the vector stays as it was.
+/// Appends the 32 bytes of a u256 or an i256.
+///
+/// # Errors
+///
+/// `AllocError` if the allocation fails; the elements of `out` are unchanged.
 pub fn write_wide(out: &mut Vec<u8>, value: &[u8; 32]) -> Result<(), AllocError>
     ensures ok { OnOk result (out.new.items ≡ out.old.items ++ value.now) }
     ensures err { OnErr result (out.new.items ≡ out.old.items) }

@@ -1,5 +1,8 @@
-//! The pieces that SCALE is made of: integers, compact integers, booleans, characters and texts,
-//! each accepted in its one spelling only, and devices that report whether a call on them failed.
+//! The elements of the SCALE codec: fixed-width and compact integers, booleans, characters and
+//! texts.
+//!
+//! Each value has one encoding, and no other is accepted. [`Source`] and [`Sink`] wrap a reader and
+//! a writer, and report whether a call on them failed.
 #![tactic(auto)]
 
 mod boolean;

@@ -8,16 +8,16 @@ use crate::device::WriteOnce;
 use std::io::Write;
 use std::marker::Model;
 
-/// Why a write took nothing.
+/// The reason for a failed write.
 #[derive(Clone, Copy, Debug, PartialEq, Eq)]
 pub enum SinkFault {
-    /// The writer answered an error; an interrupted write is one.
+    /// The writer returned an error; an interrupted write is one.
     Device,
     /// The writer took no byte of a part that is not empty.
     WroteNothing,
 }
 
-/// A writer and whether a write to it has failed: false at first, and true for good after a failure.
+/// A writer, and whether a write to it has failed: false at first, and always true after a failure.
 #[derive(Drop)]
 pub struct Sink<W: Write> {
     writer: W,
@@ -33,7 +33,7 @@ impl<W: Write> Model for Sink<W> {
 }
 
 impl<W: Write> Sink<W> {
-    /// A sink over this writer, which has not failed.
+    /// Creates a sink over this writer, in which no write has failed.
     pub fn new(writer: W) -> Sink<W>
         ensures { result ≡ record { device = writer; failed = false } }
     {
@@ -43,7 +43,7 @@ impl<W: Write> Sink<W> {
         }
     }
 
-    /// The writer, as the writes left it.
+    /// Returns the writer, in the state after the last write.
     pub fn into_inner(self) -> W
         ensures { result ≡ self.device }
     {
@@ -51,7 +51,7 @@ impl<W: Write> Sink<W> {
         writer
     }
 
-    /// Has a write failed?
+    /// Returns whether a write has failed.
     pub fn failed(&self) -> bool
         ensures { result ≡ self.now.failed }
     {
@@ -60,14 +60,19 @@ impl<W: Write> Sink<W> {
 }
 
 impl<W: WriteOnce> Sink<W> {
-    /// One write of the part, which is not empty, and no second one: how many bytes of its front went out, at least
-    /// one.
+    /// Writes the part, which is not empty, once, and returns how many of its first bytes were
+    /// written, at least one.
     ///
-    /// Refuses with `Device` where the writer answers an error to that write and with `WroteNothing` where it takes no
-    /// byte, and `failed()` is true from then on. Nothing else changes `failed()`.
+    /// # Errors
+    ///
+    /// - `Device` if the writer returns an error.
+    /// - `WroteNothing` if the writer takes no byte.
+    ///
+    /// After an error `failed()` is always true. Nothing else changes `failed()`.
     pub fn put(&mut self, part: &[u8]) -> Result<usize, SinkFault>
         requires { 0 < length part.now }
-        // One write to the writer leads to what stands afterwards: it took the count, or none, or answered an error.
+        // One write leads to the state afterwards: it took the count, or none, or returned an
+        // error.
         ensures once { W.writes self.old.device part.now (taken result) self.new.device }
         ensures count { IfOk result (λ n. (0 < n) × (n ≤ length part.now)) }
         ensures bytes { WriteAppends (W.contents self.old.device) (W.contents self.new.device)

@@ -8,14 +8,14 @@ use crate::device::ReadOnce;
 use std::io::Read;
 use std::marker::Model;
 
-/// Why a read gave nothing.
+/// The reason for a failed read.
 #[derive(Clone, Copy, Debug, PartialEq, Eq)]
 pub enum SourceFault {
-    /// The reader answered an error; an interrupted read is one.
+    /// The reader returned an error; an interrupted read is one.
     Device,
 }
 
-/// A reader and whether a read of it has failed: false at first, and true for good after a failure.
+/// A reader, and whether a read of it has failed: false at first, and always true after a failure.
 #[derive(Drop)]
 pub struct Source<R: Read> {
     reader: R,
@@ -31,7 +31,7 @@ impl<R: Read> Model for Source<R> {
 }
 
 impl<R: Read> Source<R> {
-    /// A source over this reader, which has not failed.
+    /// Creates a source over this reader, in which no read has failed.
     pub fn new(reader: R) -> Source<R>
         ensures { result ≡ record { device = reader; failed = false } }
     {
@@ -41,7 +41,7 @@ impl<R: Read> Source<R> {
         }
     }
 
-    /// The reader, as the reads left it.
+    /// Returns the reader, in the state after the last read.
     pub fn into_inner(self) -> R
         ensures { result ≡ self.device }
     {
@@ -49,7 +49,7 @@ impl<R: Read> Source<R> {
         reader
     }
 
-    /// Has a read failed?
+    /// Returns whether a read has failed.
     pub fn failed(&self) -> bool
         ensures { result ≡ self.now.failed }
     {
@@ -58,13 +58,16 @@ impl<R: Read> Source<R> {
 }
 
 impl<R: ReadOnce> Source<R> {
-    /// One read into the part, which is not empty, and no second one: how many bytes it gave, where 0 is the end.
+    /// Reads once into the part, which is not empty, and returns the number of bytes read, 0 at the
+    /// end.
     ///
-    /// Refuses with `Device` where the reader answers an error to that read, and `failed()` is true from then on.
-    /// Nothing else changes `failed()`.
+    /// # Errors
+    ///
+    /// `Device` if the reader returns an error; `failed()` is always true from then on. Nothing
+    /// else changes `failed()`.
     pub fn pull(&mut self, part: &mut [u8]) -> Result<usize, SourceFault>
         requires { 0 < length part.old }
-        // One read of the reader leads to what stands afterwards: it gave the count, or answered an error.
+        // One read leads to the state afterwards: it gave the count, or returned an error.
         ensures once { R.reads self.old.device part.old (given result) part.new self.new.device }
         ensures count { IfOk result (λ n. n ≤ length part.new) }
         ensures bytes { ReadConsumes (R.remaining self.old.device) (R.remaining self.new.device)

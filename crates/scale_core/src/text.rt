@@ -1,4 +1,5 @@
-//! Texts: the number of bytes as a compact u32, and that many bytes of UTF-8 (SCALE codec specification, "Strings").
+//! Texts: the number of bytes as a compact u32, and that many bytes of UTF-8 (SCALE codec
+//! specification, "Strings").
 
 ghost use Rattle.std.specs.Prelude.{◌≡◌, ◌≢◌, ◌<◌, ◌^◌, ◌++◌, length, IfErr, OnOk, OnErr};
 ghost use Rattle.scale_core.specs.Answers.{Answers};
@@ -10,12 +11,19 @@ use crate::fault::{Fault, Reason};
 use growth_core::make_room;
 use std::alloc::AllocError;
 
-/// Reads a text off the front of the bytes, which lend it, and answers it with the length of its spelling: 1 to 5
-/// bytes of a compact u32, and as many bytes as that says (SCALE codec specification, "Strings").
+/// Reads a text from the start of `bytes`, and returns it, borrowed from them, with the length of
+/// its encoding in bytes.
 ///
-/// Refuses, in this order: what `read_compact` refuses in the length, with its reason and place; fewer bytes after
-/// the length than it says as `Truncated` at the input's length; and bytes that are not UTF-8 as `BadUtf8` at the
-/// first byte past their longest valid front.
+/// The encoding is a compact u32 of 1 to 5 bytes, and as many bytes of UTF-8 as that number (SCALE
+/// codec specification, "Strings").
+///
+/// # Errors
+///
+/// The first that applies:
+///
+/// - Those of [`read_compact`] for the length, with the same reason and place.
+/// - `Truncated` at the length of `bytes` if fewer bytes than that number follow.
+/// - `BadUtf8` at the first byte after the longest valid prefix, if the text is not UTF-8.
 pub fn read_text(bytes: &[u8]) -> Result<(&str, usize), Fault>
     ensures reads { Answers (λ s. s.now) bytes.now result (text_at bytes.now) }
     ensures reasons { IfErr result (λ f. (f.reason ≢ Reason.BadBool)
@@ -40,8 +48,12 @@ pub fn read_text(bytes: &[u8]) -> Result<(&str, usize), Fault>
     }
 }
 
-/// Appends the text's length as a compact u32, 1 to 5 bytes, and its bytes. The text has fewer than 2^32 bytes.
-/// Where memory is refused the vector stays as it was.
+/// Appends the length of the text as a compact u32, 1 to 5 bytes, and its bytes. The text has fewer
+/// than 2^32 bytes.
+///
+/// # Errors
+///
+/// `AllocError` if the allocation fails; the elements of `out` are unchanged.
 pub fn write_text(out: &mut Vec<u8>, text: &str) -> Result<(), AllocError>
     requires { length text.now < 2 ^ 32 }
     ensures ok { OnOk result (out.new.items

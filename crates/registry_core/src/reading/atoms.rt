@@ -1,4 +1,6 @@
-//! What a registry is made of in the end: lengths, ids, texts and single bytes.
+//! The smallest parts of a registry: lengths, ids, texts and single bytes.
+//!
+//! A function that reads a part returns it with the bytes after it.
 
 ghost use Rattle.std.specs.Prelude.{◌≡◌, Ok, IfSome};
 ghost use Rattle.scale_core.specs.Read.{number_at};
@@ -15,7 +17,11 @@ use crate::type_id::TypeId;
 use scale_core::{Target, read_compact, read_text, read_u32};
 use std::alloc::Global;
 
-/// A length or an id.
+/// Reads a length or an id.
+///
+/// # Errors
+///
+/// Those of [`read_compact`] for a u32.
 pub(crate) fn length_of(bytes: &[u8]) -> Result<(u32, &[u8]), ReadStop<'_>>
     ensures { Gives (λ x. (x.0, x.1.now)) result (length_at bytes.now) }
 {
@@ -25,7 +31,11 @@ pub(crate) fn length_of(bytes: &[u8]) -> Result<(u32, &[u8]), ReadStop<'_>>
     }
 }
 
-/// A text, in memory of its own.
+/// Reads a text, and copies it to memory from the allocator.
+///
+/// # Errors
+///
+/// Those of [`read_text`], and `Memory` if the allocation fails.
 pub(crate) fn text_of(alloc: Global, bytes: &[u8]) -> Result<(Text, &[u8]), ReadStop<'_>>
     ensures { Gives (λ x. (x.0, x.1.now)) result (string_at bytes.now) }
 {
@@ -38,7 +48,11 @@ pub(crate) fn text_of(alloc: Global, bytes: &[u8]) -> Result<(Text, &[u8]), Read
     }
 }
 
-/// A byte that may be any.
+/// Reads a byte of any value.
+///
+/// # Errors
+///
+/// `Truncated` if `bytes` is empty.
 pub(crate) fn byte_of(bytes: &[u8]) -> Result<(u8, &[u8]), ReadStop<'_>>
     ensures { Gives (λ x. (x.0, x.1.now)) result (byte_at bytes.now) }
 {
@@ -48,7 +62,11 @@ pub(crate) fn byte_of(bytes: &[u8]) -> Result<(u8, &[u8]), ReadStop<'_>>
     }
 }
 
-/// A number of four bytes.
+/// Reads a little-endian number of four bytes.
+///
+/// # Errors
+///
+/// `Truncated` if `bytes` has fewer.
 pub(crate) fn word_of(bytes: &[u8]) -> Result<(u32, &[u8]), ReadStop<'_>>
     ensures { Gives (λ x. (x.0, x.1.now)) result (lifted (number_at 4 bytes.now)) }
 {
@@ -58,7 +76,11 @@ pub(crate) fn word_of(bytes: &[u8]) -> Result<(u32, &[u8]), ReadStop<'_>>
     }
 }
 
-/// The position of a type.
+/// Reads the position of a type.
+///
+/// # Errors
+///
+/// Those of [`length_of`].
 pub(crate) fn type_id_of(bytes: &[u8]) -> Result<(TypeId, &[u8]), ReadStop<'_>>
     ensures { Gives (λ x. (x.0, x.1.now)) result (type_id_at bytes.now) }
 {
@@ -66,7 +88,12 @@ pub(crate) fn type_id_of(bytes: &[u8]) -> Result<(TypeId, &[u8]), ReadStop<'_>>
     Ok((TypeId(id), rest))
 }
 
-/// The position of a type, which may be left out.
+/// Reads the position of a type, which may be absent.
+///
+/// # Errors
+///
+/// Those of [`type_id_of`], `Truncated` if `bytes` is empty, and `BadOption` if the first byte is
+/// neither `00` nor `01`.
 pub(crate) fn optional_type_id_of(bytes: &[u8]) -> Result<(Option<TypeId>, &[u8]), ReadStop<'_>>
     ensures { Gives (λ x. (x.0, x.1.now)) result (option_at type_id_at bytes.now) }
 {
@@ -81,7 +108,12 @@ pub(crate) fn optional_type_id_of(bytes: &[u8]) -> Result<(Option<TypeId>, &[u8]
     }
 }
 
-/// A text that may be left out.
+/// Reads a text, which may be absent.
+///
+/// # Errors
+///
+/// Those of [`text_of`], `Truncated` if `bytes` is empty, and `BadOption` if the first byte is
+/// neither `00` nor `01`.
 pub(crate) fn optional_text_of(
     alloc: Global,
     bytes: &[u8],
@@ -99,7 +131,11 @@ pub(crate) fn optional_text_of(
     }
 }
 
-/// The positions of types: how many, and one after the other.
+/// Reads the positions of types: their number, and each in turn.
+///
+/// # Errors
+///
+/// Those of [`length_of`], and `Memory` if an allocation fails.
 #[tactic(auto, unfolding(crate::specs::Reading::type_ids_at))]
 pub(crate) fn type_ids_of(
     alloc: Global,
@@ -117,7 +153,8 @@ pub(crate) fn type_ids_of(
     Ok((Items::from_vec(ids), rest))
 }
 
-/// The bytes after a list without elements, where one stands here: its length is the byte `00`.
+/// Returns the bytes after an empty list, whose length is the byte `00`, or `None` if `bytes`
+/// begins with another byte.
 #[inline(always)]
 #[tactic(auto, using(crate::proofs::Lengths::byte_is_read))]
 fn after_empty(bytes: &[u8]) -> Option<&[u8]>
@@ -129,7 +166,12 @@ fn after_empty(bytes: &[u8]) -> Option<&[u8]>
     }
 }
 
-/// Texts, of which there are none in most places: that is seen without a call.
+/// Reads texts: their number, and each in turn.
+///
+/// # Errors
+///
+/// Those of [`length_of`] and [`text_of`], and `Memory` if an allocation fails.
+// Most lists of texts are empty. They are read without a call.
 #[inline(always)]
 #[tactic(auto, unfolding(crate::specs::Reading::texts_at))]
 pub(crate) fn texts_of(alloc: Global, bytes: &[u8]) -> Result<(Items<Text>, &[u8]), ReadStop<'_>>
@@ -141,7 +183,11 @@ pub(crate) fn texts_of(alloc: Global, bytes: &[u8]) -> Result<(Items<Text>, &[u8
     some_texts_of(alloc, bytes)
 }
 
-/// Texts: how many, and one after the other.
+/// Reads texts. It is the out-of-line form of [`texts_of`].
+///
+/// # Errors
+///
+/// Those of [`texts_of`].
 #[inline(never)]
 #[tactic(auto, unfolding(crate::specs::Reading::texts_at))]
 fn some_texts_of(alloc: Global, bytes: &[u8]) -> Result<(Items<Text>, &[u8]), ReadStop<'_>>

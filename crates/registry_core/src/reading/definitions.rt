@@ -1,4 +1,6 @@
-//! What a type is made of: fields, arms and the eight kinds of definition.
+//! The definitions of types: fields, arms and the eight kinds of definition.
+//!
+//! A function that reads a part returns it with the bytes after it.
 
 ghost use Rattle.registry_core.specs.Gives.{Gives};
 ghost use Rattle.registry_core.specs.Reading.{field_at, fields_at, arm_read_at, arms_read_at};
@@ -16,7 +18,11 @@ use crate::items::Items;
 use crate::primitive::Primitive;
 use std::alloc::Global;
 
-/// A field.
+/// Reads a field.
+///
+/// # Errors
+///
+/// The first error in the field, or `Memory` if an allocation fails.
 #[tactic(auto, unfolding(crate::specs::Reading::field_at))]
 fn field_of(alloc: Global, bytes: &[u8]) -> Result<(Field, &[u8]), ReadStop<'_>>
     ensures { Gives (λ x. (x.0, x.1.now)) result (field_at bytes.now) }
@@ -34,7 +40,11 @@ fn field_of(alloc: Global, bytes: &[u8]) -> Result<(Field, &[u8]), ReadStop<'_>>
     Ok((field, rest))
 }
 
-/// Fields: how many, and one after the other.
+/// Reads fields: their number, and each in turn.
+///
+/// # Errors
+///
+/// The first error in them, or `Memory` if an allocation fails.
 #[tactic(auto, unfolding(crate::specs::Reading::fields_at))]
 fn fields_of(alloc: Global, bytes: &[u8]) -> Result<(Items<Field>, &[u8]), ReadStop<'_>>
     ensures { Gives (λ x. (x.0, x.1.now)) result (fields_at bytes.now) }
@@ -49,7 +59,11 @@ fn fields_of(alloc: Global, bytes: &[u8]) -> Result<(Items<Field>, &[u8]), ReadS
     Ok((Items::from_vec(fields), rest))
 }
 
-/// An arm.
+/// Reads an arm.
+///
+/// # Errors
+///
+/// The first error in the arm, or `Memory` if an allocation fails.
 #[tactic(auto, unfolding(crate::specs::Reading::arm_read_at))]
 fn arm_of(alloc: Global, bytes: &[u8]) -> Result<(Arm, &[u8]), ReadStop<'_>>
     ensures { Gives (λ x. (x.0, x.1.now)) result (arm_read_at bytes.now) }
@@ -67,7 +81,11 @@ fn arm_of(alloc: Global, bytes: &[u8]) -> Result<(Arm, &[u8]), ReadStop<'_>>
     Ok((arm, rest))
 }
 
-/// Arms: how many, and one after the other.
+/// Reads arms: their number, and each in turn.
+///
+/// # Errors
+///
+/// The first error in them, or `Memory` if an allocation fails.
 #[tactic(auto, unfolding(crate::specs::Reading::arms_read_at))]
 fn arms_of(alloc: Global, bytes: &[u8]) -> Result<(Items<Arm>, &[u8]), ReadStop<'_>>
     ensures { Gives (λ x. (x.0, x.1.now)) result (arms_read_at bytes.now) }
@@ -82,7 +100,11 @@ fn arms_of(alloc: Global, bytes: &[u8]) -> Result<(Items<Arm>, &[u8]), ReadStop<
     Ok((Items::from_vec(arms), rest))
 }
 
-/// A primitive, after the definition's byte.
+/// Reads a primitive, after the byte of the definition.
+///
+/// # Errors
+///
+/// `Truncated` if `bytes` is empty, and `BadPrimitive` if the first byte is above `0e`.
 fn primitive_of(bytes: &[u8]) -> Result<(Primitive, &[u8]), ReadStop<'_>>
     ensures { Gives (λ x. (x.0, x.1.now)) result (primitive_at bytes.now) }
 {
@@ -93,7 +115,11 @@ fn primitive_of(bytes: &[u8]) -> Result<(Primitive, &[u8]), ReadStop<'_>>
     }
 }
 
-/// An array, after the definition's byte.
+/// Reads the length and the element of an array, after the byte of the definition.
+///
+/// # Errors
+///
+/// The first error in them.
 #[tactic(auto, unfolding(crate::specs::Reading::array_at))]
 fn array_of(bytes: &[u8]) -> Result<(TypeDef, &[u8]), ReadStop<'_>>
     ensures { Gives (λ x. (x.0, x.1.now)) result (array_at bytes.now) }
@@ -103,7 +129,11 @@ fn array_of(bytes: &[u8]) -> Result<(TypeDef, &[u8]), ReadStop<'_>>
     Ok((TypeDef::Array(len, element), rest))
 }
 
-/// A bit sequence, after the definition's byte.
+/// Reads the two types of a bit sequence, after the byte of the definition.
+///
+/// # Errors
+///
+/// The first error in them.
 #[tactic(auto, unfolding(crate::specs::Reading::bit_sequence_at))]
 fn bit_sequence_of(bytes: &[u8]) -> Result<(TypeDef, &[u8]), ReadStop<'_>>
     ensures { Gives (λ x. (x.0, x.1.now)) result (bit_sequence_at bytes.now) }
@@ -113,7 +143,13 @@ fn bit_sequence_of(bytes: &[u8]) -> Result<(TypeDef, &[u8]), ReadStop<'_>>
     Ok((TypeDef::BitSequence { store, order }, rest))
 }
 
-/// A definition: its byte, and what follows it.
+/// Reads a definition: its byte, and what follows it.
+///
+/// # Errors
+///
+/// - `Truncated` if `bytes` is empty.
+/// - `BadDefinition` if the first byte is above `07`.
+/// - The first error after that byte, or `Memory` if an allocation fails.
 #[tactic(auto, unfolding(crate::specs::Reading::definition_at))]
 pub(crate) fn definition_of(alloc: Global, bytes: &[u8]) -> Result<(TypeDef, &[u8]), ReadStop<'_>>
     ensures { Gives (λ x. (x.0, x.1.now)) result (definition_at bytes.now) }

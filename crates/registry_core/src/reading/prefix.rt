@@ -1,4 +1,4 @@
-//! What metadata begins with: four letters and a version.
+//! The prefix of metadata: four letters and a version.
 
 ghost use Rattle.registry_core.specs.Gives.{Gives};
 ghost use Rattle.registry_core.specs.Reading.{letter_at, prefix_at, version_at};
@@ -8,7 +8,11 @@ use super::read_stop::ReadStop;
 use crate::fault::RegistryReason;
 use crate::version::Version;
 
-/// The bytes after this letter; another in its place is refused.
+/// Returns the bytes after this letter.
+///
+/// # Errors
+///
+/// `Truncated` if `bytes` is empty, and `NotMetadata` if the first byte is another.
 fn after_letter(letter: u8, bytes: &[u8]) -> Result<&[u8], ReadStop<'_>>
     ensures { Gives (λ rest. (tt, rest.now)) result (letter_at letter bytes.now) }
 {
@@ -19,7 +23,11 @@ fn after_letter(letter: u8, bytes: &[u8]) -> Result<&[u8], ReadStop<'_>>
     Ok(rest)
 }
 
-/// The version that the first byte reports, and the bytes after it.
+/// Reads the version from the first byte, and returns it with the bytes after it.
+///
+/// # Errors
+///
+/// `Truncated` if `bytes` is empty, and `WrongVersion` if the byte is neither `0e` nor `0f`.
 fn version_of(bytes: &[u8]) -> Result<(Version, &[u8]), ReadStop<'_>>
     ensures { Gives (λ x. (x.0, x.1.now)) result (version_at bytes.now) }
 {
@@ -30,7 +38,15 @@ fn version_of(bytes: &[u8]) -> Result<(Version, &[u8]), ReadStop<'_>>
     }
 }
 
-/// The version after the letters `meta`, and the bytes after it.
+/// Reads the letters `meta` and the version, and returns the version with the bytes after it.
+///
+/// # Errors
+///
+/// The first that applies:
+///
+/// - `NotMetadata` if one of the first four bytes is present and is not that of `meta`.
+/// - `Truncated` if there are fewer than five bytes.
+/// - `WrongVersion` if the fifth byte is neither `0e` nor `0f`.
 #[tactic(auto, unfolding(crate::specs::Reading::prefix_at))]
 pub(crate) fn prefix_of(bytes: &[u8]) -> Result<(Version, &[u8]), ReadStop<'_>>
     ensures { Gives (λ x. (x.0, x.1.now)) result (prefix_at bytes.now) }

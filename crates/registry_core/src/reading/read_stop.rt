@@ -9,16 +9,18 @@ use crate::fault::{RegistryFault, RegistryReason};
 use scale_core::{Fault, Reason};
 use std::alloc::{AllocError, AllocFailed};
 
-/// Why a part was not read.
+/// The reason why a part was not read.
 #[derive(Drop)]
 pub(crate) enum ReadStop<'a> {
-    /// Memory was refused.
+    /// An allocation failed.
     Memory,
-    /// The first fault, and the bytes from its place on.
+    /// The first error, and the bytes from its place on.
     Fault(RegistryReason, &'a [u8]),
 }
 
-/// Why a length, an id or a text is refused, as a reason of the registry. None is refused as a boolean or a character.
+/// Returns the registry's reason for an error in a length, an id or a text.
+///
+/// These are never rejected as a boolean or a character.
 fn registry_reason(reason: Reason) -> RegistryReason
     requires { (reason ≢ Reason.BadBool) × (reason ≢ Reason.BadChar) }
     ensures { result ≡ registry_reason_of reason }
@@ -33,7 +35,7 @@ fn registry_reason(reason: Reason) -> RegistryReason
 }
 
 impl<'a> ReadStop<'a> {
-    /// The fault of a length, an id or a text on the front of these bytes.
+    /// Returns the stop for an error in a length, an id or a text at the start of these bytes.
     pub(crate) fn at_fault(fault: Fault, bytes: &'a [u8]) -> ReadStop<'a>
         requires within { fault.at ≤ length bytes.now }
         requires reason { (fault.reason ≢ Reason.BadBool) × (fault.reason ≢ Reason.BadChar) }
@@ -43,7 +45,7 @@ impl<'a> ReadStop<'a> {
         ReadStop::Fault(registry_reason(fault.reason), left)
     }
 
-    /// Why the reading of these bytes stopped, and where.
+    /// Returns the error and its place, for a reading of these bytes that stopped.
     pub(crate) fn into_fault(self, bytes: &[u8]) -> RegistryFault
         requires { IsWithin bytes.now self }
         ensures { result ≡ fault_of (length bytes.now) self.entry }

@@ -1,4 +1,6 @@
-//! The types of a registry, one after the other.
+//! The types of a registry, in order.
+//!
+//! A function that reads a part returns it with the bytes after it.
 
 ghost use Rattle.registry_core.specs.Gives.{Gives};
 ghost use Rattle.registry_core.specs.Reading.{param_at, params_at, type_info_at, id_at, types_at};
@@ -12,7 +14,11 @@ use crate::items::Items;
 use crate::type_info::{Param, TypeInfo};
 use std::alloc::Global;
 
-/// A parameter.
+/// Reads a parameter.
+///
+/// # Errors
+///
+/// The first error in the parameter, or `Memory` if an allocation fails.
 #[tactic(auto, unfolding(crate::specs::Reading::param_at))]
 fn param_of(alloc: Global, bytes: &[u8]) -> Result<(Param, &[u8]), ReadStop<'_>>
     ensures { Gives (λ x. (x.0, x.1.now)) result (param_at bytes.now) }
@@ -22,7 +28,11 @@ fn param_of(alloc: Global, bytes: &[u8]) -> Result<(Param, &[u8]), ReadStop<'_>>
     Ok((Param { name, ty }, rest))
 }
 
-/// Parameters: how many, and one after the other.
+/// Reads parameters: their number, and each in turn.
+///
+/// # Errors
+///
+/// The first error in them, or `Memory` if an allocation fails.
 #[tactic(auto, unfolding(crate::specs::Reading::params_at))]
 fn params_of(alloc: Global, bytes: &[u8]) -> Result<(Items<Param>, &[u8]), ReadStop<'_>>
     ensures { Gives (λ x. (x.0, x.1.now)) result (params_at bytes.now) }
@@ -37,7 +47,11 @@ fn params_of(alloc: Global, bytes: &[u8]) -> Result<(Items<Param>, &[u8]), ReadS
     Ok((Items::from_vec(params), rest))
 }
 
-/// A type, after its id.
+/// Reads a type, after its id.
+///
+/// # Errors
+///
+/// The first error in the type, or `Memory` if an allocation fails.
 #[tactic(auto, unfolding(crate::specs::Reading::type_info_at))]
 fn type_info_of(alloc: Global, bytes: &[u8]) -> Result<(TypeInfo, &[u8]), ReadStop<'_>>
     ensures { Gives (λ x. (x.0, x.1.now)) result (type_info_at bytes.now) }
@@ -55,7 +69,11 @@ fn type_info_of(alloc: Global, bytes: &[u8]) -> Result<(TypeInfo, &[u8]), ReadSt
     Ok((info, rest))
 }
 
-/// The bytes after the id of the type at this position.
+/// Reads the id of the type at this position, and returns the bytes after it.
+///
+/// # Errors
+///
+/// Those of [`length_of`], and `IdOutOfPlace` if the id is not the position.
 fn after_id(position: u32, bytes: &[u8]) -> Result<&[u8], ReadStop<'_>>
     ensures { Gives (λ rest. (position, rest.now)) result (id_at position bytes.now) }
 {
@@ -66,7 +84,11 @@ fn after_id(position: u32, bytes: &[u8]) -> Result<&[u8], ReadStop<'_>>
     Ok(rest)
 }
 
-/// As many types, each after its id, which is its position.
+/// Reads `count` types, each after its id, which is its position.
+///
+/// # Errors
+///
+/// The first error in them, or `Memory` if an allocation fails.
 pub(crate) fn types_of(
     alloc: Global,
     count: u32,
