@@ -1,4 +1,4 @@
-//! What a value of a type begins with, by its step in the table of its registry.
+//! What a value of a type begins with, by its step in the registry's table.
 
 ghost use Rattle.std.specs.Prelude.{◌≡◌};
 ghost use Rattle.grammar_core.specs.Forms.{next_at, next_of_step};
@@ -7,7 +7,7 @@ use registry_core::{Primitive, TypeId};
 use scale_core::Target;
 use widths_core::{Checked, TypeStep};
 
-/// What stands at a place in a value, and how many parts it has (SCALE codec, "Types").
+/// The form of a node, which says how many parts it has (SCALE codec, "Types").
 #[derive(Clone, Copy, Debug, PartialEq, Eq)]
 pub enum Form {
     /// The one value of a type that takes no bytes. It has no parts.
@@ -18,39 +18,42 @@ pub enum Form {
     Compact(Target),
     /// A value of each field of a composite, or of each member of a tuple, in order.
     Fields,
-    /// The index byte of an arm, and a value of each field of the first arm that has this index, in order.
+    /// The index byte of an arm, then a value of each field of the first arm of this index, in
+    /// order.
     Arm,
-    /// This many values of one type other than u8, at least one, with no length before them.
+    /// This many values, at least one, of one type other than u8, without a length before them.
     Array(u32),
-    /// This many bytes, at least one, with no length before them: an array of u8. It has no parts.
+    /// This many bytes, at least one, without a length before them: an array of u8. It has no
+    /// parts.
     ByteArray(u32),
-    /// A compact length, and so many values of one type other than u8.
+    /// A compact length, then that many values of one type other than u8.
     Sequence,
-    /// A compact length, and so many bytes: a sequence of u8. It has no parts.
+    /// A compact length, then that many bytes: a sequence of u8. It has no parts.
     Bytes,
-    /// A compact length alone: the elements take no bytes.
+    /// A compact length alone, because the elements take no bytes.
     Count,
 }
 
-/// Why no value is read at a place. Where several hold, the first of them in this order is reported (this project's own
-/// order).
+/// Why no value can be read at a position. If several apply, the first in this order is reported
+/// (this project's own order).
 #[derive(Clone, Copy, Debug, PartialEq, Eq)]
 pub enum StopReason {
-    /// The depth of the place is above the limit.
+    /// The depth is above the limit.
     TooDeep,
-    /// The type has no value: each would hold another of its type, without end, or the type is a variant without arms.
+    /// The type has no finite value: each would contain another of its type, or the type is a
+    /// variant without arms.
     NoFiniteValue,
-    /// The type is a bit sequence, whose values are left out.
+    /// The type is a bit sequence, whose values are not supported.
     BitSequence,
-    /// The type is a compact over something else than an unsigned integer of at most 128 bits, nothing, or a wrapper
-    /// of one of these.
+    /// The type is a compact that wraps no unsigned integer of at most 128 bits, no empty type, and
+    /// no wrapper of one of these.
     BadCompact,
 }
 
 /// What comes next in a value.
 #[derive(Clone, Copy, Debug, PartialEq, Eq)]
 pub enum Next {
-    /// Nothing: the value is whole.
+    /// Nothing: the value is complete.
     Finished,
     /// A value that cannot be read.
     Stop(StopReason),
@@ -58,8 +61,8 @@ pub enum Next {
     Wants(Form),
 }
 
-/// What a value of a type of this step begins with, or why there is none, where its depth is within the limit (SCALE
-/// codec, "Types"). It takes no look-up.
+/// Returns what a value of a type of this step begins with, or why there is none, at a depth within
+/// the limit (SCALE codec, "Types").
 pub fn next_of_step(step: TypeStep) -> Next
     ensures { result ≡ next_of_step step }
 {
@@ -80,7 +83,8 @@ pub fn next_of_step(step: TypeStep) -> Next
     }
 }
 
-/// What a value of the type begins with, or why there is none, where its depth is within the limit: one look-up.
+/// Returns what a value of the type begins with, or why there is none, at a depth within the limit.
+/// It takes one look-up.
 pub fn next_at(checked: &Checked, ty: TypeId) -> Next
     ensures { result ≡ next_at checked.now.types ty.0 }
 {

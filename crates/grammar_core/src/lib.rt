@@ -1,4 +1,4 @@
-//! The grammar of values, what holds of all of them, and what a value of a type begins with.
+//! The grammar of values, its laws, and what a value of a type begins with.
 #![tactic(auto)]
 
 mod form;

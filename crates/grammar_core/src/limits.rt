@@ -2,22 +2,22 @@
 
 ghost use Rattle.std.specs.Prelude.{◌≡◌};
 
-/// The greatest depth limit that is accepted: the place in a value that a program keeps is bounded by it.
+/// The greatest depth limit that is accepted.
 pub const MAX_DEPTH: u16 = 1024;
 
-/// What a value of untrusted bytes may be at most (this project's own bounds; the SCALE codec sets none).
+/// The limits on a value of untrusted bytes (this project's own; the SCALE codec sets none).
 #[derive(Clone, Copy, Debug, PartialEq, Eq)]
 pub struct Limits {
-    /// The greatest depth of a node, from 0 to 1024: the root has depth 0, and a part one more than what it is part of.
-    /// A greater limit is refused where a builder or a decoder is made.
+    /// The greatest depth of a node, from 0 to 1024. The root has depth 0, and a part one more than
+    /// the node around it. Builders and decoders reject a greater limit when they are created.
     pub depth: u16,
-    /// The greatest number of bytes of a whole value, from 0 to 1099511627776, which is 2^40. A greater limit is refused
-    /// where a decoder is made.
+    /// The greatest number of bytes of a complete value, from 0 to 2^40 (1099511627776). Decoders
+    /// reject a greater limit when they are created.
     pub bytes: u64,
 }
 
 impl Limits {
-    /// A depth of 64, and 16777216 bytes, which are 16 MiB.
+    /// Returns a depth of 64 and 16777216 bytes (16 MiB).
     pub fn default_limits() -> Limits
         ensures { result ≡ record { depth = 64; bytes = 16777216 } }
     {

@@ -1,4 +1,4 @@
-//! The nodes directly below a node.
+//! The children of a node.
 
 ghost use Rattle.std.specs.Prelude.{◌≡◌};
 ghost use Rattle.std.specs.Iterator.{YieldsFirstBy, item_count};
@@ -9,7 +9,7 @@ use crate::node_ref::NodeRef;
 use std::marker::Model;
 use widths_core::Checked;
 
-/// The nodes directly below a node, in order: each step passes over one of them and all that is below it.
+/// An iterator over the children of a node, in order. Each step passes one child and its subtree.
 #[derive(Drop)]
 pub struct Children<'v, 'r> {
     checked: &'r Checked,
@@ -33,7 +33,7 @@ impl<'v, 'r> Model for Children<'v, 'r> {
 }
 
 impl<'v, 'r> Children<'v, 'r> {
-    /// The nodes whose subtrees these are, one after the other.
+    /// Creates an iterator over the roots of these subtrees, which follow one another.
     #[inline(always)]
     pub(crate) fn new(checked: &'r Checked, nodes: &'v [Node], pool: &'v [u8]) -> Children<'v, 'r>
         requires { IsForest checked.now.types pool.now nodes.now }

@@ -17,23 +17,23 @@ pub enum Leaf<'b> {
     Bool(bool),
     /// A character.
     Char(char),
-    /// A text, by its bytes in UTF-8, fewer than 2^32.
+    /// A text, as UTF-8, fewer than 2^32 bytes.
     Text(&'b [u8]),
-    /// A sequence or an array of u8, by its bytes, fewer than 2^32.
+    /// The bytes of a sequence or an array of u8, fewer than 2^32.
     Bytes(&'b [u8]),
     /// An unsigned integer of at most sixteen bytes.
     Unsigned(u128),
     /// A signed integer of at most sixteen bytes.
     Signed(i128),
-    /// A 256-bit integer, by its 32 bytes, the lowest first.
+    /// A 256-bit integer, as 32 bytes in little-endian order.
     Wide(&'b [u8]),
     /// A compact integer.
     Compact(u128),
-    /// A sequence of elements that take no bytes, by their count.
+    /// A sequence of this many elements that take no bytes.
     Count(u32),
 }
 
-/// The same number in 64 bits, where it fits.
+/// Returns the number in 64 bits, if it fits.
 #[inline(always)]
 fn short(number: u128) -> Option<u64>
     ensures { IfSome result (λ n. n ≡ number) }
@@ -45,7 +45,7 @@ fn short(number: u128) -> Option<u64>
     }
 }
 
-/// The same number in 64 bits, where it fits.
+/// Returns the number in 64 bits, if it fits.
 fn short_signed(number: i128) -> Option<i64>
     ensures { IfSome result (λ z. z ≡ number) }
 {
@@ -57,7 +57,7 @@ fn short_signed(number: i128) -> Option<i64>
 }
 
 impl<'b> Leaf<'b> {
-    /// How many bytes it has of a text or of a run of bytes.
+    /// Returns the number of bytes of a text or a run of bytes, and 0 for another leaf.
     #[inline(always)]
     pub fn text_len(self) -> usize
         ensures { result ≡ leaf_text_bytes self.entry }
@@ -68,8 +68,11 @@ impl<'b> Leaf<'b> {
         }
     }
 
-    /// What it is as a node, with what does not fit the node appended to the pool. Where memory is refused nothing
-    /// changes.
+    /// Appends what does not fit a node to the pool, and returns the content of the node.
+    ///
+    /// # Errors
+    ///
+    /// If an allocation fails; the pool is unchanged.
     #[inline(always)]
     pub fn keep<A: Allocator>(self, pool: &mut GrowVec<u8, A>) -> Result<Content, AllocError>
         requires { FitsLeaf self }

@@ -1,4 +1,4 @@
-//! The nodes of a value: kept one after the other, looked at, and written.
+//! The nodes of a value: how they are kept, read and written.
 #![tactic(auto)]
 
 mod children;

@@ -1,22 +1,25 @@
-//! A node of a value as it is kept.
+//! A node of a value, as it is kept.
 
 ghost use Rattle.std.specs.Prelude.{◌≡◌};
 ghost use Rattle.node_core.specs.Shown.{size_shown, closed_as};
 
 use registry_core::TypeId;
 
-/// How many bytes of memory a node of a value or a builder takes. Beside its nodes a value has the bytes of its texts and
-/// runs of bytes, 32 for each 256-bit integer, and 16 for each other one above 64 bits. Vectors that grow have room for half as
-/// much again, and for at most four times as much where a list or a run that is open is expected to bring it.
+/// The number of bytes of memory that a node of a value or a builder takes.
+///
+/// Beside its nodes a value holds the bytes of its texts and runs of bytes, 32 for each 256-bit
+/// integer, and 16 for every other integer above 64 bits. A vector that grows has capacity for half
+/// as much again, or for at most four times as much if an open list or run is expected to need it.
 pub const NODE_BYTES: usize = 24;
 
 const _: () = prove!(size_of::<Node>() == NODE_BYTES);
 
-/// What a node is, with its number where that fits 64 bits. Texts, runs of bytes and longer integers are in the pool, and
-/// have their place here; an integer has its lowest byte first there, a long one sixteen bytes, and a wide one 32.
+/// The content of a node, with its number if that fits 64 bits. Texts, runs of bytes and longer
+/// integers lie in the pool at `start`; integers there are little-endian, in 16 bytes, or 32 if
+/// wide.
 ///
-/// A node with parts reports how many nodes its subtree has: 0 while it is open. Numbers of four bytes stand in front
-/// of those of eight, so that they share a word with the mark of the variant.
+/// `size` is the number of nodes of the subtree, and 0 while the node is open.
+// Fields of four bytes come before those of eight, so they share a word with the tag.
 #[derive(Clone, Copy)]
 pub enum Content {
     /// The one value of a type that takes no bytes.
@@ -25,11 +28,11 @@ pub enum Content {
     Bool(bool),
     /// A character.
     Char(char),
-    /// A sequence of so many elements that take no bytes.
+    /// A sequence of this many elements that take no bytes.
     Count(u32),
-    /// A text of so many bytes.
+    /// A text of this many bytes.
     Text { len: u32, start: usize },
-    /// A sequence or an array of so many u8.
+    /// A sequence or an array of this many u8.
     Bytes { len: u32, start: usize },
     /// An unsigned integer.
     Unsigned(u64),
@@ -47,13 +50,13 @@ pub enum Content {
     Wide { start: usize },
     /// A composite or a tuple.
     Fields { size: usize },
-    /// A variant, by the position of its arm.
+    /// A variant, with the position of its arm.
     Arm { position: u32, size: usize },
-    /// An array or a sequence of another type than u8.
+    /// An array or a sequence of a type other than u8.
     List { size: usize },
 }
 
-/// A node as it is kept.
+/// A node, as it is kept.
 #[derive(Clone, Copy)]
 pub struct Node {
     /// Its type.
@@ -65,7 +68,7 @@ pub struct Node {
 }
 
 impl Content {
-    /// How many nodes the subtree has: 1 of a leaf, and 0 of a node that is open.
+    /// Returns the number of nodes of the subtree: 1 for a leaf, and 0 for an open node.
     #[inline(always)]
     pub(crate) fn size(&self) -> usize
         ensures { result ≡ size_shown self.now }
@@ -76,7 +79,7 @@ impl Content {
         }
     }
 
-    /// The subtree has so many nodes; that of a leaf stays as it is.
+    /// Sets the number of nodes of the subtree. A leaf is unchanged.
     pub fn close(&mut self, nodes: usize)
         ensures { self.new ≡ closed_as self.old nodes }
     {

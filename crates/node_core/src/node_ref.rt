@@ -1,4 +1,4 @@
-//! A node of a value, lent.
+//! A borrowed node of a value.
 
 ghost use Rattle.std.specs.Prelude.{◌≡◌, option_map};
 ghost use Rattle.node_core.specs.Shown.{IsWhole, IsValue, seen, bytes_of, children_of, text_of};
@@ -12,7 +12,7 @@ use registry_core::TypeId;
 use std::marker::Model;
 use widths_core::Checked;
 
-/// A node of a value with all that is below it, lent.
+/// A borrowed node of a value, with its subtree.
 #[derive(Drop)]
 pub struct NodeRef<'v, 'r> {
     checked: &'r Checked,
@@ -35,7 +35,7 @@ impl<'v, 'r> Model for NodeRef<'v, 'r> {
 }
 
 impl<'v, 'r> NodeRef<'v, 'r> {
-    /// The node whose subtree these nodes are.
+    /// Creates a reference to the node whose subtree these nodes are.
     pub(crate) fn new(checked: &'r Checked, nodes: &'v [Node], pool: &'v [u8]) -> NodeRef<'v, 'r>
         requires { IsWhole checked.now.types pool.now nodes.now }
         ensures { result ≡ seen checked.now.types pool.now nodes.now }
@@ -47,7 +47,7 @@ impl<'v, 'r> NodeRef<'v, 'r> {
         }
     }
 
-    /// The type of the node.
+    /// Returns the type of the node.
     #[inline(always)]
     pub fn type_id(&self) -> TypeId
         ensures same { result.0 ≡ self.now.ty }
@@ -56,7 +56,7 @@ impl<'v, 'r> NodeRef<'v, 'r> {
         self.nodes[0].ty
     }
 
-    /// What the node is.
+    /// Returns what the node is.
     #[inline(always)]
     pub fn what(&self) -> What
         ensures same { result ≡ what_of self.now.tree }
@@ -86,7 +86,7 @@ impl<'v, 'r> NodeRef<'v, 'r> {
         }
     }
 
-    /// The node's text, where it is one, lent. A run of bytes is none.
+    /// Returns the text if the node is one. A run of bytes is not.
     #[inline(always)]
     pub fn text(&self) -> Option<&'v str>
         ensures { option_map (λ s. s.now) result ≡ text_of self.now.tree }
@@ -100,7 +100,7 @@ impl<'v, 'r> NodeRef<'v, 'r> {
         }
     }
 
-    /// The node's bytes, where it is a sequence or an array of u8, lent.
+    /// Returns the bytes if the node is a sequence or an array of u8.
     #[inline(always)]
     pub fn bytes(&self) -> Option<&'v [u8]>
         ensures { option_map (λ s. s.now) result ≡ bytes_of self.now.tree }
@@ -111,7 +111,7 @@ impl<'v, 'r> NodeRef<'v, 'r> {
         }
     }
 
-    /// The nodes directly below this one, in order.
+    /// Returns an iterator over the children of the node, in order.
     #[inline(always)]
     pub fn children(&self) -> Children<'v, 'r>
         ensures { result ≡ children_of self.now }

@@ -1,4 +1,4 @@
-//! A text or a run of bytes that comes in pieces.
+//! A text or a run of bytes whose bytes come in pieces.
 
 ghost use Rattle.std.specs.Prelude.{◌≡◌};
 ghost use Rattle.node_core.specs.Leaves.{run_content};
@@ -6,20 +6,19 @@ ghost use Rattle.node_core.specs.Leaves.{run_content};
 use crate::node::Content;
 use widths_core::RunKind;
 
-/// A text or a run of bytes that comes in pieces: which it is, where its bytes begin in the pool, and how many it is to
-/// have.
+/// A text or a run of bytes whose bytes come in pieces.
 #[derive(Clone, Copy)]
 pub struct OpenRun {
-    /// Which it is.
+    /// Its kind.
     pub kind: RunKind,
-    /// The place of its first byte in the pool.
+    /// The position of its first byte in the pool.
     pub start: usize,
-    /// How many bytes it is to have.
+    /// Its length when complete, in bytes.
     pub len: u32,
 }
 
 impl OpenRun {
-    /// The node that it is when all its bytes are there.
+    /// Returns the content of the node that the complete run is.
     pub fn content(self) -> Content
         ensures { result ≡ run_content self }
     {

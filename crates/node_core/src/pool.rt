@@ -1,4 +1,4 @@
-//! Texts, runs of bytes and long integers in the pool of bytes beside a value's nodes.
+//! Texts, runs of bytes and long integers in the pool beside a value's nodes.
 
 ghost use Rattle.std.specs.Prelude.{◌≡◌, ◌<◌, ◌≤◌, ◌+◌, ◌^◌, ◌++◌, length, IfOk, IfErr, OnOk};
 ghost use Rattle.std.specs.Prelude.{OnErr};
@@ -8,13 +8,18 @@ ghost use Rattle.node_core.specs.Shown.{long_shown};
 use growth_core::GrowVec;
 use std::alloc::{AllocError, Allocator};
 
-/// The first long integer of a pool takes room for so many bytes, those of four, so that few of them take room once.
+/// The first long integer of a pool takes room for so many bytes, those of four, so that few of
+/// them take room once.
 const AT_ONCE: usize = 64;
 
 /// One more than the greatest number that eight bytes hold.
 const HALF: u128 = 1 << 64;
 
-/// Appends the bytes of a text or of a run: how many they are. Where memory is refused nothing changes.
+/// Appends the bytes of a text or a run, and returns how many they are.
+///
+/// # Errors
+///
+/// If an allocation fails; the pool is unchanged.
 #[inline(always)]
 pub(crate) fn put_run<A: Allocator>(
     pool: &mut GrowVec<u8, A>,
@@ -29,15 +34,19 @@ pub(crate) fn put_run<A: Allocator>(
     Ok(bytes.len() as u32)
 }
 
-/// Returns how many bytes the pool is expected to get, which has so many when the run is whole: those that it lacks, and an
-/// eighth of its length at least.
+/// Returns how many bytes to reserve for a run at whose end the pool has `whole` bytes: those that
+/// are missing, and at least an eighth of its length.
 #[inline(always)]
 fn missing<A: Allocator>(pool: &GrowVec<u8, A>, whole: usize) -> usize {
     whole.saturating_sub(pool.len()).max(pool.len() / 8)
 }
 
-/// Appends a piece of a run to the pool, which has so many bytes when the run is whole: all of it, or where memory is refused
-/// nothing. Where pieces are short most are of one byte, which takes a store and no copy.
+/// Appends a piece of a run at whose end the pool has `whole` bytes.
+///
+/// # Errors
+///
+/// If an allocation fails; the pool is unchanged.
+// Short pieces are mostly of one byte, which takes a store and no copy.
 #[inline(always)]
 pub fn put_piece<A: Allocator>(
     pool: &mut GrowVec<u8, A>,
@@ -55,7 +64,11 @@ pub fn put_piece<A: Allocator>(
     pool.extend_from_slice(piece, Some(missing(pool, whole)))
 }
 
-/// Appends the sixteen bytes of an integer, the lowest first: its place. Where memory is refused nothing changes.
+/// Appends the sixteen bytes of an integer in little-endian order, and returns their position.
+///
+/// # Errors
+///
+/// If an allocation fails; the pool is unchanged.
 #[inline(never)]
 pub(crate) fn put_long<A: Allocator>(
     pool: &mut GrowVec<u8, A>,
@@ -70,13 +83,14 @@ pub(crate) fn put_long<A: Allocator>(
     if !pool.has_room(16) {
         pool.make_room(AT_ONCE, None)?;
     }
-    // Eight bytes are one store. The sixteen of the whole number would be moved to a vector register one by one.
+    // Eight bytes are one store. The sixteen of the whole number would be moved to a vector
+    // register one by one.
     pool.extend_from_slice(&((number % HALF) as u64).to_le_bytes(), None)?;
     pool.extend_from_slice(&((number / HALF) as u64).to_le_bytes(), None)?;
     Ok(start)
 }
 
-/// The integer whose sixteen bytes stand at a place.
+/// Returns the integer whose sixteen bytes begin at a position.
 #[inline(never)]
 pub(crate) fn long_at(pool: &[u8], start: usize) -> u128
     requires { start + 16 ≤ length pool.now }

@@ -1,4 +1,4 @@
-//! What is left of the parts of an open node, by the references of the registry.
+//! The remaining parts of an open node, as references of the registry.
 
 ghost use Rattle.std.specs.Prelude.{◌≡◌, ◌≤◌, ℕ, List, is_none};
 ghost use Rattle.grammar_core.specs.Parts.{first_of, left_after};
@@ -7,19 +7,20 @@ ghost use Rattle.node_core.specs.Remaining.{after_first, have_one_type};
 
 use crate::node::Node;
 
-/// The parts of an open node that are still to come: so many, the last of these. Which types they have is said by numbers
-/// and not by an enum: these have no padding, which would be moved with them.
+/// The parts of an open node that are still to come, the last of its parts.
+// Numbers rather than an enum, which would have padding that is moved with it.
 #[derive(Clone, Copy)]
 pub struct Remaining {
     pub count: u32,
     /// The type of all of them, by its number, where they have one.
     pub element: u32,
-    /// 0 where they have one type. Else each part has the type that a reference of its own names. These references follow one
-    /// another, and this is one more than the number after the last of theirs.
+    /// 0 where they have one type. Else each part has the type that a reference of its own names.
+    /// These references follow one another, and this is one more than the number after the last of
+    /// theirs.
     pub end: usize,
 }
 
-/// An open node: its place among the nodes, and what is left of its parts.
+/// An open node: its position among the nodes, and its remaining parts.
 #[derive(Clone, Copy)]
 pub struct Frame {
     pub node: usize,
@@ -27,7 +28,7 @@ pub struct Frame {
 }
 
 impl Remaining {
-    /// A value of each of `count` references from number `from` on.
+    /// Returns a value of each of `count` references, from number `from` on.
     pub fn members(from: u32, count: u32) -> Remaining
         ensures { result ≡ members_of from count }
     {
@@ -38,7 +39,7 @@ impl Remaining {
         }
     }
 
-    /// So many values of one type.
+    /// Returns `count` values of one type.
     pub fn copies(count: u32, element: u32) -> Remaining
         ensures { result ≡ copies_of count element }
     {
@@ -49,14 +50,14 @@ impl Remaining {
         }
     }
 
-    /// No values.
+    /// Returns no values.
     pub fn none() -> Remaining
         ensures { result ≡ copies_of 0 0 }
     {
         Remaining::copies(0, 0)
     }
 
-    /// Is nothing left?
+    /// Returns whether no part remains.
     #[inline(always)]
     pub fn is_empty(&self) -> bool
         ensures { (references : List ℕ) → IsWithin references self.now →
@@ -65,7 +66,7 @@ impl Remaining {
         self.count == 0
     }
 
-    /// The type that is next, if anything is left, by the references of the registry.
+    /// Returns the type of the next part, if one remains.
     #[inline(always)]
     pub fn first(&self, references: &[u32]) -> Option<u32>
         requires { IsWithin references.now self.now }
@@ -80,7 +81,7 @@ impl Remaining {
         Some(references[self.end - 1 - self.count as usize])
     }
 
-    /// The next type is no longer left.
+    /// Removes the next part.
     #[tactic(auto, using(crate::proofs::Members::one_less))]
     #[inline(always)]
     pub fn advance(&mut self)
@@ -93,7 +94,7 @@ impl Remaining {
         self.count -= 1;
     }
 
-    /// The same, made anew.
+    /// Returns the parts without the next one.
     #[inline(always)]
     pub fn advanced(self) -> Remaining
         requires { 1 ≤ self.count }
@@ -107,7 +108,7 @@ impl Remaining {
         left
     }
 
-    /// Have all of them one type, by how the node is defined?
+    /// Returns whether all remaining parts share one type by the definition of the node.
     #[inline(always)]
     pub fn have_one_type(&self) -> bool
         ensures { (references : List ℕ) →
@@ -116,7 +117,7 @@ impl Remaining {
         self.end == 0
     }
 
-    /// How many values of the next one's type follow it, where all have one type; else 0.
+    /// Returns how many parts follow the next one if all share one type, and otherwise 0.
     #[inline(always)]
     pub fn after_first(&self) -> u32
         ensures { (references : List ℕ) →
@@ -129,7 +130,7 @@ impl Remaining {
         }
     }
 
-    /// Is something left, of the same type as what was before it?
+    /// Returns whether a part remains and has the type of the one before it.
     #[inline(always)]
     pub fn repeats(&self) -> bool
         ensures { result ≡ repeats self.now }
@@ -139,8 +140,9 @@ impl Remaining {
 }
 
 impl Frame {
-    /// How many more nodes are expected of the elements of a list that are left: as many for each as those that came have in the
-    /// mean, of which the last is half there. Of another node, and where none came or is left, none.
+    /// Returns how many nodes the remaining elements of a list are expected to bring: for each as
+    /// many as those that came have in the mean, the last of which is half there. It is 0 for
+    /// another node, and if no element came or remains.
     pub fn expected(&self, nodes: &[Node]) -> usize {
         let Some(node) = nodes.get(self.node) else {
             return 0;

@@ -1,4 +1,4 @@
-//! A finished value.
+//! A complete value.
 
 ghost use Rattle.std.specs.Prelude.{◌≡◌, ◌≤◌, length};
 ghost use Rattle.grammar_core.specs.Tree.{nodes, text_bytes};
@@ -11,8 +11,9 @@ use std::alloc::Allocator;
 use std::marker::Model;
 use widths_core::Checked;
 
-/// A value of a type of a checked registry: a flat list of its nodes, each before its children, and a pool of the bytes
-/// of its texts, runs of bytes, and integers that do not fit 64 bits. A node takes `NODE_BYTES` bytes of memory.
+/// A value of a type of a checked registry: a flat list of its nodes, each before its children, and
+/// a pool of the bytes of its texts, runs of bytes, and integers above 64 bits. A node takes
+/// [`NODE_BYTES`](crate::NODE_BYTES) bytes of memory.
 #[derive(Drop)]
 pub struct Value<'r, A: Allocator> {
     checked: &'r Checked,
@@ -40,8 +41,8 @@ impl<'r, A: Allocator> Model for Value<'r, A> {
 }
 
 impl<'r, A: Allocator> Value<'r, A> {
-    /// The value whose nodes these are: all of them, each before its children, with their bytes in the pool, of which the
-    /// texts and runs of bytes have so many. It takes no memory.
+    /// Creates a value of these nodes, each before its children, whose bytes are in the pool;
+    /// `text_len` of them are of texts and runs. It allocates nothing.
     pub fn new(
         checked: &'r Checked,
         nodes: GrowVec<Node, A>,
@@ -61,14 +62,14 @@ impl<'r, A: Allocator> Value<'r, A> {
         }
     }
 
-    /// The registry whose type it has, lent.
+    /// Returns the registry of its type.
     pub fn checked(&self) -> &'r Checked
         ensures { result.now.types ≡ self.now.types }
     {
         self.checked
     }
 
-    /// The node that holds all others.
+    /// Returns the node that contains all others.
     pub fn root<'v>(&'v self) -> NodeRef<'v, 'r>
         ensures same { result ≡ self.now }
         ensures value { IsValue self.now }
@@ -76,7 +77,8 @@ impl<'r, A: Allocator> Value<'r, A> {
         NodeRef::new(self.checked, self.nodes.as_slice(), self.pool.as_slice())
     }
 
-    /// Its nodes, each before its children, and the pool of the bytes of their texts and long integers, lent.
+    /// Returns the nodes, each before its children, and the pool of the bytes of their texts and
+    /// long integers.
     pub(crate) fn parts(&self) -> (&[Node], &[u8])
         ensures whole { IsWhole self.now.types result.1.now result.0.now }
         ensures same { seen self.now.types result.1.now result.0.now ≡ self.now }
@@ -85,14 +87,14 @@ impl<'r, A: Allocator> Value<'r, A> {
         (self.nodes.as_slice(), self.pool.as_slice())
     }
 
-    /// How many nodes it has.
+    /// Returns the number of nodes.
     pub fn node_count(&self) -> u64
         ensures { result ≡ nodes self.now.tree }
     {
         self.nodes.as_slice().len() as u64
     }
 
-    /// How many bytes its texts and its runs of bytes have.
+    /// Returns the number of bytes of all texts and runs of bytes.
     pub fn text_bytes(&self) -> u64
         ensures { result ≡ text_bytes self.now.tree }
     {

@@ -9,15 +9,15 @@ pub enum What {
     Bool(bool),
     /// A character.
     Char(char),
-    /// A text; the node lends it.
+    /// A text; [`NodeRef::text`](crate::NodeRef::text) returns it.
     Text,
-    /// A sequence or an array of u8; the node lends its bytes.
+    /// A sequence or an array of u8; [`NodeRef::bytes`](crate::NodeRef::bytes) returns it.
     Bytes,
     /// A u8, u16, u32, u64 or u128.
     Unsigned(u128),
     /// An i8, i16, i32, i64 or i128.
     Signed(i128),
-    /// A u256 or an i256: its 32 bytes, the lowest first.
+    /// A u256 or an i256, in little-endian order.
     Wide([u8; 32]),
     /// A compact integer.
     Compact(u128),
@@ -28,8 +28,8 @@ pub enum What {
         /// The position of the arm in the list of arms, which is not its index.
         position: u32,
     },
-    /// An array or a sequence of another type than u8; its elements are the node's children.
+    /// An array or a sequence of a type other than u8; its elements are the node's children.
     List,
-    /// A sequence of so many elements that take no bytes.
+    /// A sequence of this many elements that take no bytes.
     Count(u32),
 }

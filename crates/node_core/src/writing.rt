@@ -1,4 +1,4 @@
-//! A value's bytes, written to a sink.
+//! Writes a value's bytes to a sink.
 
 ghost use Rattle.std.specs.Prelude.{◌≡◌, ◌≤◌, ◌<◌, ◌+◌, ◌^◌, ◌||◌, [], true, length, take, IfOk};
 ghost use Rattle.std.specs.Prelude.{IfErr, OnOk, is_ok, not};
@@ -19,16 +19,16 @@ use scale_core::{Sink, SinkFault, WriteOnce, put_compact};
 use std::alloc::Allocator;
 use widths_core::Checked;
 
-/// A write that failed, and how many bytes went out before it.
+/// A failed write, and how many bytes were written before it.
 #[derive(Clone, Copy, Debug, PartialEq, Eq)]
 pub struct WriteFault {
     /// What the writer did.
     pub reason: SinkFault,
-    /// The number of bytes that went out.
+    /// The number of bytes that were written.
     pub written: u64,
 }
 
-/// How many bytes an integer of at most 128 bits has, and 0 for any other primitive type.
+/// Returns the number of bytes of an integer of at most 128 bits, and 0 for another primitive type.
 fn byte_width(primitive: Primitive) -> usize
     ensures { result ≡ byte_width primitive }
 {
@@ -38,7 +38,7 @@ fn byte_width(primitive: Primitive) -> usize
     }
 }
 
-/// The same of a type, and 0 where it is no primitive type.
+/// Returns the number of bytes of an integer of the type, and 0 if it is none of at most 128 bits.
 fn width_of(checked: &Checked, ty: TypeId) -> usize
     ensures exact { result ≡ width_of (shape checked.now.types ty.0) }
     ensures bound { result ≤ 16 }
@@ -49,7 +49,7 @@ fn width_of(checked: &Checked, ty: TypeId) -> usize
     }
 }
 
-/// The index of a variant's arm at a position, where there is one.
+/// Returns the index of a variant's arm at a position, if there is one.
 fn index_of(checked: &Checked, ty: TypeId, position: u32) -> Option<u8>
     ensures { result ≡ index_of (shape checked.now.types ty.0) position }
 {
@@ -62,14 +62,15 @@ fn index_of(checked: &Checked, ty: TypeId, position: u32) -> Option<u8>
     }
 }
 
-/// Is the type a sequence, whose values begin with their length?
+/// Returns whether the type is a sequence, whose values begin with their length.
 fn is_sequence(checked: &Checked, ty: TypeId) -> bool
     ensures { result ≡ is_sequence (shape checked.now.types ty.0) }
 {
     matches!(checked.shape(ty), Some(TypeDef::Sequence(_)))
 }
 
-/// Puts the low bytes of an integer's sixteen, as many as its type has, at the front of the array: how many they are.
+/// Writes the low bytes of an integer, as many as its type has, to the front of `out`, and returns
+/// how many they are.
 fn put_integer(checked: &Checked, ty: TypeId, number: u128, out: &mut [u8; 17]) -> usize
     ensures bound { result ≤ 17 }
     ensures bytes { take result out.new
@@ -81,8 +82,8 @@ fn put_integer(checked: &Checked, ty: TypeId, number: u128, out: &mut [u8; 17]) 
     width
 }
 
-/// Puts the index byte of a variant's arm at the front of the array, where the type has an arm at the position: how
-/// many bytes that is.
+/// Writes the index byte of a variant's arm to the front of `out`, if the type has an arm at the
+/// position. Returns how many bytes that is.
 fn put_index(checked: &Checked, ty: TypeId, position: u32, out: &mut [u8; 17]) -> usize
     ensures bound { result ≤ 17 }
     ensures bytes { take result out.new
@@ -97,7 +98,8 @@ fn put_index(checked: &Checked, ty: TypeId, position: u32, out: &mut [u8; 17]) -
     }
 }
 
-/// Puts the length of a sequence, and nothing for an array, at the front of the array: how many bytes that is.
+/// Writes the length of a sequence, and nothing for an array, to the front of `out`. Returns how
+/// many bytes that is.
 fn put_length(checked: &Checked, ty: TypeId, length: u32, out: &mut [u8; 17]) -> usize
     ensures bound { result ≤ 17 }
     ensures bytes { take result out.new ≡ length_bytes (shape checked.now.types ty.0) length }
@@ -109,8 +111,8 @@ fn put_length(checked: &Checked, ty: TypeId, length: u32, out: &mut [u8; 17]) ->
     }
 }
 
-/// Puts the bytes of a node in front of those that lie in the pool as they are at the front of the array: how many they
-/// are.
+/// Writes the bytes of a node that do not lie in the pool to the front of `out`, and returns how
+/// many they are.
 fn put_node(checked: &Checked, node: &Node, pool: &[u8], out: &mut [u8; 17]) -> usize
     requires { IsInPool pool.now node.now.content }
     ensures bound { result ≤ 17 }
@@ -143,7 +145,7 @@ fn put_node(checked: &Checked, node: &Node, pool: &[u8], out: &mut [u8; 17]) -> 
     }
 }
 
-/// The bytes of a node that lie in the pool as they are written.
+/// Returns the bytes of a node that lie in the pool as they are written.
 fn pooled<'v>(node: &Node, pool: &'v [u8]) -> &'v [u8]
     requires { IsInPool pool.now node.now.content }
     ensures { result.now ≡ pool_bytes pool.now node.now.content }
@@ -157,14 +159,16 @@ fn pooled<'v>(node: &Node, pool: &'v [u8]) -> &'v [u8]
     }
 }
 
-/// Writes all the bytes. Where there are none, no write is made.
+/// Writes all the bytes. If there are none, no write is made.
 ///
-/// Refuses, and reports how many bytes went out in all:
-/// - `Device`, where the writer answers an error; an interrupted write is one;
-/// - `WroteNothing`, where the writer takes no byte of a part that is not empty.
+/// # Errors
 ///
-/// The sink has failed from then on, and what went out is the beginning of the bytes. Where all went out `failed()`
-/// stays as it was.
+/// With the number of bytes written in all, which begin `bytes`; the sink has failed for good.
+///
+/// - `Device` if the writer returns an error, also for an interrupted write.
+/// - `WroteNothing` if the writer takes no byte of a part that is not empty.
+///
+/// Otherwise `failed()` is unchanged.
 pub fn send<W: WriteOnce>(sink: &mut Sink<W>, bytes: &[u8]) -> Result<(), WriteFault>
     ensures ok { OnOk result (Appends (W.contents sink.old.device)
         (W.contents sink.new.device) bytes.now) }
@@ -191,8 +195,11 @@ pub fn send<W: WriteOnce>(sink: &mut Sink<W>, bytes: &[u8]) -> Result<(), WriteF
     Ok(())
 }
 
-/// Writes the bytes of a node without those of its children: how many they are. Where a write fails, it reports how many
-/// of them went out before.
+/// Writes the bytes of a node without those of its children, and returns how many they are.
+///
+/// # Errors
+///
+/// If a write fails, with how many of the bytes were written before.
 fn send_node<W: WriteOnce>(
     checked: &Checked,
     node: &Node,
@@ -228,15 +235,17 @@ fn send_node<W: WriteOnce>(
     }
 }
 
-/// Writes the one spelling of a value, byte for byte (SCALE codec specification): the bytes of each node, in their
+/// Writes the one spelling of a value (SCALE codec specification): the bytes of each node, in their
 /// order, without recursion. A value that takes no bytes makes no write.
 ///
-/// Refuses, and reports how many bytes went out in all:
-/// - `Device`, where the writer answers an error; an interrupted write is one;
-/// - `WroteNothing`, where the writer takes no byte of a part that is not empty.
+/// # Errors
 ///
-/// The sink has failed from then on, and what went out is the beginning of the value's bytes. Where all went out
-/// `failed()` stays as it was. The value stays as it was in either case.
+/// With the number of bytes written in all, which begin the spelling; the sink has failed for good.
+///
+/// - `Device` if the writer returns an error, also for an interrupted write.
+/// - `WroteNothing` if the writer takes no byte of a part that is not empty.
+///
+/// Otherwise `failed()` is unchanged.
 pub fn encode<A: Allocator, W: WriteOnce>(
     value: &Value<'_, A>,
     sink: &mut Sink<W>,

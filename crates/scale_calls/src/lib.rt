@@ -1,5 +1,5 @@
-//! What a caller makes of bytes that are all there: a registry that is open, the lines of its types, a value's JSON. No
-//! files, no process, no pointers.
+//! What callers do with complete bytes: open a registry, show its types, and turn a value into
+//! JSON. It knows no files, processes or pointers.
 #![tactic(auto)]
 
 mod lines;

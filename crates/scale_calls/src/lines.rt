@@ -1,4 +1,4 @@
-//! The lines that report the types of a registry, and the version of the metadata around it.
+//! The lines that show the types of a registry and its metadata's version.
 
 ghost use Rattle.std.specs.Prelude.{◌≡◌, ◌<◌, ◌++◌, IfOk, OnOk, option_map, string_bytes};
 ghost use Rattle.serde_json.specs.Data.{string};
@@ -11,7 +11,7 @@ use serde_json::Value;
 use std::alloc::{AllocError, Global};
 use widths_core::{Checked, Class};
 
-/// A class's name.
+/// Returns the name of a class.
 fn class_name(class: Class) -> &'static str
     ensures { result.now ≡ class_name class }
 {
@@ -22,7 +22,7 @@ fn class_name(class: Class) -> &'static str
     }
 }
 
-/// A primitive's name in small letters.
+/// Returns the name of a primitive type, in lower case.
 fn primitive_name(primitive: Primitive) -> &'static str
     ensures { result.now ≡ primitive_name primitive }
 {
@@ -45,7 +45,7 @@ fn primitive_name(primitive: Primitive) -> &'static str
     }
 }
 
-/// What kind of definition it is; of a primitive, which one.
+/// Returns the kind of a definition, or the name of the primitive type.
 fn kind_name(shape: &TypeDef) -> &'static str
     ensures { result.now ≡ kind_name shape.now }
 {
@@ -61,7 +61,7 @@ fn kind_name(shape: &TypeDef) -> &'static str
     }
 }
 
-/// The segments, with two colons between one and the next.
+/// Joins the segments of a path by `::`.
 fn joined(alloc: Global, segments: &[Text]) -> Result<String, AllocError>
     ensures { IfOk result (λ path. string_bytes path ≡ joined_segments segments.now) }
 {
@@ -76,7 +76,7 @@ fn joined(alloc: Global, segments: &[Text]) -> Result<String, AllocError>
     Ok(path)
 }
 
-/// A path as a JSON text.
+/// Returns a path as a JSON string.
 fn path_text(alloc: Global, segments: &[Text]) -> Result<String, AllocError>
     ensures { IfOk result (λ text.
         string_bytes text ≡ compact_text (string (joined_segments segments.now))) }
@@ -85,7 +85,7 @@ fn path_text(alloc: Global, segments: &[Text]) -> Result<String, AllocError>
     Value::String(path).to_string(alloc)
 }
 
-/// Appends the line of a type: its position, class, kind and path, with one space between.
+/// Appends the line of a type: its position, class, kind and path, separated by one space.
 fn push_line(
     alloc: Global,
     lines: &mut String,
@@ -103,8 +103,11 @@ fn push_line(
     lines.push_str(line.as_str())
 }
 
-/// Appends the lines of all types, in order of position, each with a line feed. Where memory is refused a beginning of
-/// them may have been appended.
+/// Appends the lines of all types, in order of position, each with a line feed.
+///
+/// # Errors
+///
+/// `AllocError` if an allocation fails; the first of the lines may have been appended.
 pub fn push_type_lines(
     alloc: Global,
     lines: &mut String,
@@ -121,8 +124,12 @@ pub fn push_type_lines(
     Ok(())
 }
 
-/// The line of the type at a position, with a line feed; none where the registry has no such type. Refuses want of
-/// memory.
+/// Returns the line of the type at a position, with a line feed, or `None` if the registry has no
+/// such type.
+///
+/// # Errors
+///
+/// `AllocError` if an allocation fails.
 pub fn type_line(alloc: Global, checked: &Checked, id: u32) -> Result<Option<String>, AllocError>
     ensures { IfOk result (λ line. option_map string_bytes line ≡ type_line checked.now.types id) }
 {
@@ -137,7 +144,12 @@ pub fn type_line(alloc: Global, checked: &Checked, id: u32) -> Result<Option<Str
     Ok(Some(line))
 }
 
-/// The line of the version of metadata, with a line feed, or no line where there is none. Refuses want of memory.
+/// Returns the line of the metadata's version, with a line feed, or an empty text if there is no
+/// version.
+///
+/// # Errors
+///
+/// `AllocError` if an allocation fails.
 pub fn version_line(alloc: Global, version: Option<Version>) -> Result<String, AllocError>
     ensures { IfOk result (λ line. string_bytes line ≡ version_line version) }
 {

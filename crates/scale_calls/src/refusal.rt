@@ -11,7 +11,7 @@ use std::alloc::AllocError;
 use thiserror::Error;
 use widths_core::CheckFault;
 
-/// The type `from` refers to the type `to`, which is not there.
+/// A reference of the type `from` to the type `to`, which the registry lacks.
 #[derive(Clone, Copy, Debug, PartialEq, Eq, Error)]
 #[error("UnknownType {to} in type {from}")]
 pub struct UnknownReference {
@@ -24,11 +24,11 @@ pub struct UnknownReference {
 pub enum RegistryRefusal {
     /// The first fault of the bytes.
     Fault(RegistryFault),
-    /// Bytes follow the registry, which has so many.
+    /// Bytes follow the registry, which ends at this place.
     TrailingBytes(u64),
-    /// A type refers to one that is not there.
+    /// A type refers to one that the registry lacks.
     Check(UnknownReference),
-    /// Memory was refused.
+    /// An allocation failed.
     Memory,
 }
 
@@ -57,18 +57,18 @@ impl From<CheckFault> for RegistryRefusal {
     }
 }
 
-/// Why bytes that are all there are no value of a type of the registry.
+/// Why complete bytes are no value of a type of the registry.
 #[derive(Clone, Copy, Debug, PartialEq, Eq)]
 pub enum ValueRefusal {
     /// The registry has no type at the position.
     UnknownType,
-    /// The depth is above 1024, or the limit of bytes above 2^40.
+    /// The depth limit is above 1024, or the limit of bytes above 2^40.
     LimitOutOfRange,
     /// The first fault of the bytes.
     Fault(DecodeFault),
-    /// Bytes follow the value, which has so many.
+    /// Bytes follow the value, which ends at this place.
     TrailingBytes(u64),
-    /// Memory was refused.
+    /// An allocation failed.
     Memory,
 }
 

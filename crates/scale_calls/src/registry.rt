@@ -1,4 +1,4 @@
-//! A registry from bytes that are all there, checked, and the version of the metadata that it stood in.
+//! Opens a registry from complete bytes, and finds its metadata's version.
 
 ghost use Rattle.std.specs.Prelude.{◌≡◌, Some, IfOk, IfErr};
 ghost use Rattle.graph_core.specs.References.{first_fault};
@@ -10,7 +10,8 @@ use registry_core::{Registry, Version, read_metadata, read_registry};
 use std::alloc::Global;
 use widths_core::Checked;
 
-/// The registry that all the bytes spell, or where they are metadata the one after its prefix, and its version.
+/// Reads the registry that all the bytes spell or, in metadata, the one after the prefix, with the
+/// metadata's version.
 fn registry_of(
     alloc: Global,
     metadata: bool,
@@ -31,7 +32,7 @@ fn registry_of(
     Ok((registry, None))
 }
 
-/// The registry with its references checked.
+/// Checks the references of a registry.
 fn checked(alloc: Global, registry: Registry) -> Result<Checked, RegistryRefusal>
     ensures ok { IfOk result (λ types. unless_fault (first_fault registry) registry
         ≡ Some types.types) }
@@ -43,11 +44,17 @@ fn checked(alloc: Global, registry: Registry) -> Result<Checked, RegistryRefusal
     }
 }
 
-/// Opens the registry that all the bytes hold, with its references checked; of metadata the one after its prefix, and
-/// its version. What follows the registry in metadata is not read.
+/// Reads and checks the registry that all the bytes hold. In metadata it is the one after the
+/// prefix, with the metadata's version; what follows it is not read.
 ///
-/// Refuses, in this order: the first fault of the bytes as `Fault`, bytes after a registry that stands alone as
-/// `TrailingBytes` at its length, and the first reference that is no position as `Check`; want of memory as `Memory`.
+/// # Errors
+///
+/// The first that applies:
+///
+/// - `Fault`: the first fault of the bytes.
+/// - `TrailingBytes` at the registry's length, if bytes follow one that stands alone.
+/// - `Check`: the first reference to a type that the registry lacks.
+/// - `Memory` if an allocation fails.
 #[tactic(auto, unfolding(crate::specs::Opened::checked_of))]
 pub fn open_registry(
     alloc: Global,

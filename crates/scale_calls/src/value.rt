@@ -1,4 +1,4 @@
-//! A value from bytes that are all there, and its JSON.
+//! Reads a value from complete bytes, and turns it into JSON.
 
 ghost use Rattle.std.specs.Prelude.{string_bytes};
 ghost use Rattle.decode_core.specs.Decoding.{opening_fault};
@@ -13,11 +13,17 @@ use std::alloc::Global;
 use value_core::{Limits, Value};
 use widths_core::Checked;
 
-/// The value of the type at a position that all the bytes spell, within these limits.
+/// Reads the value of the type at a position that all the bytes spell, within the limits.
 ///
-/// Refuses, in this order: a position that is none of the registry's as `UnknownType`, a depth above 1024 or a limit of
-/// bytes above 2^40 as `LimitOutOfRange`, what the decoder refuses in the bytes as `Fault`, and bytes after the value as
-/// `TrailingBytes` at the value's length; want of memory as `Memory`.
+/// # Errors
+///
+/// The first that applies:
+///
+/// - `UnknownType` if the registry has no type at the position.
+/// - `LimitOutOfRange` if the depth limit is above 1024 or the limit of bytes above 2^40.
+/// - `Fault`: what the decoder rejects the bytes for.
+/// - `TrailingBytes` at the value's length, if bytes follow it.
+/// - `Memory` if an allocation fails.
 pub fn read_value<'r>(
     alloc: Global,
     checked: &'r Checked,
@@ -40,7 +46,11 @@ pub fn read_value<'r>(
     }
 }
 
-/// The JSON text of that value, as `json_core` writes it, without a line end. Refuses what `read_value` refuses.
+/// Returns the JSON text of the value that all the bytes spell, without a line end.
+///
+/// # Errors
+///
+/// Those of [`read_value`].
 pub fn value_text(
     alloc: Global,
     checked: &Checked,

@@ -1,4 +1,4 @@
-//! The command line as `clap` reads it.
+//! The command line, as `clap` reads it.
 
 ghost use Rattle.std.specs.Prelude.{◌≡◌, IfOk, IfErr, map, true, false};
 ghost use Rattle.clap.specs.Words.{FailsBy, app_of, fault_of, found_of, rows_of, rule_of};
@@ -12,7 +12,7 @@ use clap::error::ErrorKind;
 use clap::{Arg, ArgAction, ArgMatches, Command, Error};
 use std::alloc::{AllocError, Global};
 
-/// What the help of the program and of each subcommand ends with.
+/// The end of the help of the program and of each subcommand.
 const NOTES: &str = "\
 Limits of a value:
   depth   0 to 1024, 64 where --depth is absent; the value itself has depth 0
@@ -129,7 +129,11 @@ fn line_command<'a>(alloc: Global) -> Result<Command<'a>, AllocError>
     Ok(command)
 }
 
-/// What the words of a command line say, the program's name first.
+/// Parses the words of a command line, the program's name first.
+///
+/// # Errors
+///
+/// What `clap` reports: a usage error, the help that the words ask for, or a failed allocation.
 pub(crate) fn line_matches<'a>(alloc: Global, words: &'a [&'a str]) -> Result<ArgMatches<'a>, Error>
     ensures found { IfOk result
         (λ m. rows_of (found_of m) ≡ matches_of line (map (λ s. s.now) words.entry.now)) }

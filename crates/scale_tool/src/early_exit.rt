@@ -1,4 +1,4 @@
-//! What is reported where a job doesn't begin: a command line that names none, or a file that does not open.
+//! What is reported if a job does not begin: its command line names none, or a file does not open.
 
 ghost use Rattle.std.specs.Prelude.{◌≡◌, ◌⊎◌, ℕ, take, true};
 ghost use Rattle.std.specs.Io.KnownBytes.{Appends, Keeps};
@@ -12,8 +12,8 @@ use scale_core::Sink;
 use std::io::Write;
 use value_core::send;
 
-/// Reports on `err` that the device's file does not open, or that a write to the output failed, and answers the status,
-/// 3. A failed write to `err` changes no status.
+/// Reports on `err` that a file does not open, or that a write to the output failed, and returns
+/// the status, 3. A failed write to `err` changes no status.
 pub fn unopened<E: Write>(device: Device, err: &mut Sink<E>) -> u8
     ensures status { result ≡ 3 }
     ensures reported { (err.new.failed ≡ true)
@@ -23,12 +23,13 @@ pub fn unopened<E: Write>(device: Device, err: &mut Sink<E>) -> u8
     3
 }
 
-/// Reports why a command line names no job, and answers the status: 0 where it asks for help, whose text goes to `out`,
-/// 2 for a usage error, 3 where the help could not be written, and 4 for want of memory.
+/// Reports why a command line names no job, and returns the status: 0 if it asks for help, whose
+/// text goes to `out`; 2 for a usage error; 3 if the help could not be written; and 4 if an
+/// allocation failed.
 ///
-/// At 0 the whole text of the help was appended to `out`, and at 3 a beginning of it. Otherwise nothing was written to
-/// `out`, and `err` got the text of what `clap` says, or one line, unless a write to it failed, which changes no status.
-/// It takes no memory: the text was made where the line was refused.
+/// At 0 the complete text of the help was appended to `out`, and at 3 a beginning of it. Otherwise
+/// nothing was written to `out`, and `err` got the text of `clap` or one line, unless a write to it
+/// failed, which changes no status. It allocates nothing.
 pub fn explain<W: Write, E: Write>(fault: JobFault, out: &mut Sink<W>, err: &mut Sink<E>) -> u8
     ensures status { IsStatusOf fault result }
     ensures shown { result ≡ 0 →

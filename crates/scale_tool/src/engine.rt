@@ -23,7 +23,7 @@ use scale_core::{ReadOnce, Sink, Source, WriteOnce};
 use std::alloc::{AllocError, Global};
 use value_core::{Value, send};
 
-/// The text of a value's JSON and a line feed.
+/// Returns the text of a value's JSON and a line feed.
 fn line_text(alloc: Global, value: &Value<'_, Global>) -> Result<String, AllocError>
     ensures { IfOk result (λ text. string_bytes text ≡ line_of value.now) }
 {
@@ -32,7 +32,7 @@ fn line_text(alloc: Global, value: &Value<'_, Global>) -> Result<String, AllocEr
     Ok(text)
 }
 
-/// The line of the metadata's version, where the registry stands in metadata, and the lines of the types.
+/// Returns the line of the metadata's version, if there is one, and the lines of the types.
 fn types_text<R: ReadOnce>(
     alloc: Global,
     metadata: bool,
@@ -55,7 +55,7 @@ fn types_text<R: ReadOnce>(
     Ok(text)
 }
 
-/// The line of a value.
+/// Returns the line of a value.
 fn value_text<R: ReadOnce, V: ReadOnce>(
     alloc: Global,
     metadata: bool,
@@ -92,7 +92,7 @@ fn value_text<R: ReadOnce, V: ReadOnce>(
     Ok(line_text(alloc, &value)?)
 }
 
-/// The text that the job writes.
+/// Returns the text that the job writes.
 fn answer<R: ReadOnce, V: ReadOnce>(
     alloc: Global,
     job: Job,
@@ -131,7 +131,7 @@ fn answer<R: ReadOnce, V: ReadOnce>(
     }
 }
 
-/// Writes the text of the job to `out`, or answers why it has none, or why the text did not go out.
+/// Writes the text of the job to `out`, or returns why there is none or why it was not written.
 fn serve<R: ReadOnce, V: ReadOnce, W: WriteOnce>(
     alloc: Global,
     job: Job,
@@ -173,8 +173,8 @@ fn serve<R: ReadOnce, V: ReadOnce, W: WriteOnce>(
     }
 }
 
-/// Reports the refusal on `err` in one line, and answers its status; or want of memory, where there is none for the
-/// line. Whether the line goes out changes nothing.
+/// Reports a refusal on `err` in one line, and returns its status; or reports a failed allocation,
+/// if the line cannot be made. Failed writes change nothing.
 fn refuse<E: WriteOnce>(alloc: Global, refusal: Refusal, err: &mut Sink<E>) -> u8
     ensures { ((result ≡ status_of refusal)
         × Sends E.writes E.contents err.old err.new (refusal_line refusal))
@@ -197,14 +197,15 @@ fn refuse<E: WriteOnce>(alloc: Global, refusal: Refusal, err: &mut Sink<E>) -> u
     }
 }
 
-/// Does the job on the bytes of a registry and a value: writes its text to `out` and answers 0, or writes one line to
-/// `err` and answers why there is no text. The value is read only once the registry and the type stand: where either is
-/// refused, or the registry's device fails, no byte of the value is touched.
+/// Runs a job on the bytes of a registry and a value: writes its text to `out` and returns 0, or
+/// writes one line to `err` and returns a status that says why there is no text. The value is read
+/// only once the registry and the type stand.
 ///
-/// The status is 1 where the registry, the type or the value is refused, 3 where a read or a write failed, or a write
-/// took nothing, and 4 where memory was refused. The value's raw bytes are read in pieces, so a failed read counts only
-/// while the bytes before it leave the answer open. Without 0 nothing was written to `out`, unless a write to it failed:
-/// then a beginning of the text may stand there. A failed write to `err` changes no status.
+/// The status is 1 if the registry, the type or the value is rejected; 3 if a read or a write
+/// failed or a write took nothing; and 4 if an allocation failed. Raw bytes of a value are read in
+/// pieces, so a failed read counts only while the bytes before it leave the answer open. Unless the
+/// status is 0 nothing was written to `out`; if a write to it failed, a beginning of the text may
+/// stand there. A failed write to `err` changes no status.
 pub fn run<R: ReadOnce, V: ReadOnce, W: WriteOnce, E: WriteOnce>(
     alloc: Global,
     job: Job,
@@ -218,7 +219,7 @@ pub fn run<R: ReadOnce, V: ReadOnce, W: WriteOnce, E: WriteOnce>(
 
     ensures status { (result ≡ 0) ⊎ ((result ≡ 1) ⊎ ((result ≡ 3) ⊎ (result ≡ 4))) }
 
-    // 0 only where the whole text went out, and 1 only where there is none.
+    // 0 only if the complete text was written, and 1 only if there is none.
     ensures done { result ≡ 0 →
         OnText job (R.remaining registry.old.device) (V.remaining value.old.device)
         (λ text. WritesAll text (W.contents out.old.device) (W.contents out.new.device)) }
@@ -226,14 +227,15 @@ pub fn run<R: ReadOnce, V: ReadOnce, W: WriteOnce, E: WriteOnce>(
         OnText job (R.remaining registry.old.device) (V.remaining value.old.device)
         (λ text. text ≡ None) }
 
-    // Without 0 `out` is untouched; or, with 3 alone, a write to it failed, and a beginning of the text may stand there.
+    // Unless the status is 0 `out` is untouched; only at 3, if a write to it failed, may a
+    // beginning of the text stand there.
     ensures silent { (result ≡ 1) ⊎ (result ≡ 4) → out.new ≡ out.old }
     ensures front { result ≡ 3 → (out.new ≡ out.old) ⊎ (FailsWriting W.writes out.new
         × OnText job (R.remaining registry.old.device) (V.remaining value.old.device)
         (λ text. WritesFront text (W.contents out.old.device) (W.contents out.new.device))) }
 
-    // 3 only where a device failed, and no other answer says so. A failed read of the value's bytes counts only while
-    // those that were read before it leave the answer open.
+    // 3 exactly if a device failed. A failed read of the value's bytes counts only while those read
+    // before it leave the answer open.
     ensures device { result ≡ 3 → FailsReading R.reads registry.old registry.new
         ⊎ (((value.new.failed ≡ true) × StopsJob job (R.remaining registry.old.device)
         (FailsAfter V.reads value.old.device value.new.device)
@@ -243,8 +245,8 @@ pub fn run<R: ReadOnce, V: ReadOnce, W: WriteOnce, E: WriteOnce>(
         ⊎ ((registry.new.failed ≡ registry.old.failed) × (value.new.failed ≡ value.old.failed)
         × (out.new.failed ≡ out.old.failed)) }
 
-    // Without 0 the status is that of one refusal, which is right of the files and devices and is reported on `err`:
-    // whether its line went out, or a write of it failed, changes no status.
+    // Unless it is 0 the status is that of one refusal, which is right of the files and devices and
+    // is reported on `err`. A failed write of its line changes no status.
     ensures reported { ((result ≡ 0) × (err.new ≡ err.old)) ⊎ Reports
         (Stands (registry.new.failed ≡ true) (value.new.failed ≡ true) (out.new.failed ≡ true)
         (Faults job (R.remaining registry.old.device) (V.remaining value.old.device)))
@@ -253,8 +255,7 @@ pub fn run<R: ReadOnce, V: ReadOnce, W: WriteOnce, E: WriteOnce>(
     // The job that shows types does not touch the value.
     ensures unread { ReadsNoValue job → value.new ≡ value.old }
 
-    // The value is untouched where the registry is refused or its device fails, and where the type is none of its
-    // types.
+    // The value is untouched if the registry is rejected, its device fails, or it lacks the type.
     ensures read_last { (value.new ≡ value.old) ⊎ ((registry.new.failed ≡ registry.old.failed)
         × HasJobType job (R.remaining registry.old.device)) }
 {

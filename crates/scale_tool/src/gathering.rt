@@ -1,4 +1,4 @@
-//! All bytes of a source, gathered in a vector.
+//! Collects all bytes of a source in a vector.
 
 ghost use Rattle.std.specs.Prelude.{◌≡◌, ◌+◌, ◌++◌, ◌<◌, ◌≤◌, ◌⊎◌, true, length, vec_len, IfOk};
 ghost use Rattle.std.specs.Prelude.{IfSome, OnOk, IsErrOf, Some};
@@ -10,19 +10,19 @@ ghost use Rattle.scale_tool.specs.Moved.{LeavesReader};
 use scale_core::{ReadOnce, Source};
 use std::alloc::Global;
 
-/// How many bytes one read asks for at most.
+/// The most bytes that one read asks for.
 const PIECE: usize = 4096;
 
-/// Why bytes were not gathered.
+/// Why bytes were not collected.
 #[derive(Clone, Copy)]
 pub(crate) enum GatherFault {
     /// A read failed.
     Device,
-    /// Memory was refused.
+    /// An allocation failed.
     Memory,
 }
 
-/// One read into the part, whose bytes are appended: how many there were, where 0 is the end.
+/// Reads once, appends the bytes, and returns how many there were; 0 is the end.
 fn pull_onto<R: ReadOnce>(
     source: &mut Source<R>,
     part: &mut [u8],
@@ -50,7 +50,11 @@ fn pull_onto<R: ReadOnce>(
     }
 }
 
-/// Appends all bytes that are left.
+/// Appends all remaining bytes of the source.
+///
+/// # Errors
+///
+/// `Device` if a read fails, and `Memory` if an allocation fails.
 pub(crate) fn gather_all<R: ReadOnce>(
     source: &mut Source<R>,
     out: &mut Vec<u8>,

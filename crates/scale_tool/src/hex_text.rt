@@ -1,4 +1,4 @@
-//! Bytes from a text of hexadecimal digits.
+//! Reads bytes from a text of hexadecimal digits.
 
 ghost use Rattle.std.specs.Prelude.{◌≡◌, ◌≤◌, length, IfOk, IfErr, Ok};
 ghost use Rattle.scale_tool.specs.HexText.{IsOfHex, back_over, digits_end, hex_bytes, prefix_len};
@@ -7,7 +7,7 @@ use crate::refusal::{HexFault, HexRefusal};
 use hex::FromHexError;
 use std::alloc::Global;
 
-/// How many bytes stand in front of the digits: two where the text has `0x` there.
+/// Returns the length of the prefix `0x`: 2 if the text has it, and otherwise 0.
 fn prefix_len(text: &[u8]) -> usize
     ensures value { result ≡ prefix_len text.now }
     ensures bound { result ≤ length text.now }
@@ -15,7 +15,7 @@ fn prefix_len(text: &[u8]) -> usize
     if text.starts_with(b"0x") { 2 } else { 0 }
 }
 
-/// The place of the byte before `end`, where it is this one, and else `end`.
+/// Returns the position before `end` if this byte stands there, and otherwise `end`.
 fn back_over(text: &[u8], end: usize, byte: u8) -> usize
     requires { end ≤ length text.now }
     ensures value { result ≡ back_over text.now end byte }
@@ -28,7 +28,7 @@ fn back_over(text: &[u8], end: usize, byte: u8) -> usize
     }
 }
 
-/// Where the line end of the text begins, or the text's length where it has none.
+/// Returns where the line end of the text begins, or the text's length if it has none.
 fn digits_end(text: &[u8]) -> usize
     ensures value { result ≡ digits_end text.now }
     ensures bound { result ≤ length text.now }
@@ -40,11 +40,18 @@ fn digits_end(text: &[u8]) -> usize
     back_over(text, line, b'\r')
 }
 
-/// The bytes whose digits the text holds: after an optional `0x`, two hexadecimal digits of either case for each byte,
-/// and an optional line end, LF or CR and LF.
+/// Returns the bytes whose digits the text holds: after an optional `0x`, two hexadecimal digits of
+/// either case for each byte, and an optional line end (LF or CR LF).
 ///
-/// Refuses an odd number of bytes between prefix and line end as `Odd` at the end of them, else the first of them that
-/// is no digit as `Bad` at its place in the text, and want of memory as `Memory`.
+/// # Errors
+///
+/// The first that applies:
+///
+/// - `Odd`, at the end of the digits, if their number is odd.
+/// - `Bad` at the first byte that is no digit.
+/// - `Memory` if an allocation fails.
+///
+/// Places are in the text.
 pub(crate) fn hex_bytes(alloc: Global, text: &[u8]) -> Result<Vec<u8>, HexRefusal>
     ensures ok { IfOk result (λ bytes. hex_bytes text.now ≡ Ok bytes.items) }
     ensures err { IfErr result (IsOfHex (hex_bytes text.now)) }

@@ -19,17 +19,18 @@ use std::alloc::{AllocError, Global};
 /// Why a command line names no job.
 #[derive(Debug, Drop)]
 pub enum JobFault {
-    /// What `clap` says of the line: the help that it asks for (status 0, or 3 where it can't be written), or what is
-    /// wrong with it (status 2).
+    /// What `clap` reports of the line: the help that it asks for (status 0, or 3 if it can't be
+    /// written), or what is wrong with it (status 2).
     Line {
-        /// What `clap` answered, which is no want of memory.
+        /// The error of `clap`, which is no failed allocation.
         error: Error,
-        /// The text that it has for it.
+        /// Its text.
         text: String,
     },
-    /// ID is no number from 0 to 4294967295 in ASCII digits alone, or D none from 0 to 1024 (status 2).
+    /// ID is no number from 0 to 4294967295 in ASCII digits alone, or D none from 0 to 1024 (status
+    /// 2).
     Usage,
-    /// Memory was refused, to `clap` or to what is made of its answer (status 4).
+    /// An allocation failed (status 4).
     Memory,
 }
 
@@ -41,7 +42,7 @@ impl From<AllocError> for JobFault {
     }
 }
 
-/// The number that ASCII digits alone spell.
+/// Returns the number that ASCII digits alone spell.
 fn number_of(text: &str) -> Option<u32>
     ensures { SomeIff result (IsNumeral 10 text.now
         × (digits_value 10 text.now < 2 ^ 32)) (digits_value 10 text.now) }
@@ -53,8 +54,8 @@ fn number_of(text: &str) -> Option<u32>
     text.parse().ok()
 }
 
-/// The depth limit that the option's text spells in ASCII digits alone, and 64 where there is no text; None where that
-/// is no number up to 1024.
+/// Returns the depth limit that the option's text spells in ASCII digits alone, or 64 without a
+/// text; `None` if that is no number up to 1024.
 fn depth_of(text: Option<&str>) -> Option<u16>
     ensures depth { IfSome result
         (λ n. SpellsDepth (option_map (λ s. s.now) text.entry) n × (n ≤ 1024)) }
@@ -71,7 +72,7 @@ fn depth_of(text: Option<&str>) -> Option<u16>
     Some(depth as u16)
 }
 
-/// The job of `types`, with FILE.
+/// Returns the job of `types` and its FILE.
 fn types_job<'a>(matches: &ArgMatches<'a>) -> Option<(Job, &'a str)>
     ensures served { IfSome result (λ j. IsServed j.0) }
     ensures job { IfSome result
@@ -84,7 +85,8 @@ fn types_job<'a>(matches: &ArgMatches<'a>) -> Option<(Job, &'a str)>
     Some((Job::Types { metadata }, file))
 }
 
-/// The job of `decode`, with FILE and VALUEFILE; None where ID or D is no number in its range.
+/// Returns the job of `decode`, its FILE and VALUEFILE, or `None` if ID or D is no number in its
+/// range.
 fn decode_job<'a>(matches: &ArgMatches<'a>) -> Option<(Job, &'a str, &'a str)>
     ensures served { IfSome result (λ j. IsServed j.0) }
     ensures job { IfSome result (λ j.
@@ -107,7 +109,8 @@ fn decode_job<'a>(matches: &ArgMatches<'a>) -> Option<(Job, &'a str, &'a str)>
     Some((job, file, value_file))
 }
 
-/// The job that the line's matches name, with FILE and VALUEFILE; None where ID or D is no number in its range.
+/// Returns the job that the matches name, its FILE and VALUEFILE, or `None` if ID or D is no number
+/// in its range.
 fn job_of<'a>(matches: &ArgMatches<'a>) -> Option<(Job, &'a str, Option<&'a str>)>
     ensures served { IfSome result (λ j. IsServed j.0) }
     ensures job { IfSome result
@@ -126,7 +129,7 @@ fn job_of<'a>(matches: &ArgMatches<'a>) -> Option<(Job, &'a str, Option<&'a str>
     None
 }
 
-/// The value's file, where there is one, in a string of its own.
+/// Returns a copy of the value file's name, if there is one.
 fn owned(alloc: Global, text: Option<&str>) -> Result<Option<String>, AllocError>
     ensures { IfOk result (λ owned.
         option_map string_bytes owned ≡ option_map (λ s. s.now) text.entry) }
@@ -137,16 +140,17 @@ fn owned(alloc: Global, text: Option<&str>) -> Result<Option<String>, AllocError
     }
 }
 
-/// The job that the words of a command line name, FILE and, where the job has one, VALUEFILE. The program's name is
-/// the first word.
+/// Returns the job that the words of a command line name, its FILE and, if the job has one, its
+/// VALUEFILE. The first word is the program's name.
 ///
-/// Refuses, and keeps nothing then:
-/// - with `Line` where `clap` answers no matches: help that the words ask for, whose status is 0, or a usage error,
-///   whose status is 2: an unknown word or option, an argument that is missing, left over or given twice;
-/// - with `Usage`, status 2, where `clap` takes the words, and ID is not ASCII digits alone or is above 4294967295, or D
-///   is not ASCII digits alone or is above 1024; leading zeros are allowed, and a sign, a blank or nothing is no digit;
-/// - with `Memory`, status 4, where memory is refused: to `clap`, to the text of what it says, or to the names of the
-///   files.
+/// # Errors
+///
+/// - `Line` if `clap` rejects the words (status 2: an unknown word or option, or an argument that
+///   is missing, left over or given twice), or if they ask for help (status 0).
+/// - `Usage` (status 2) if ID is not ASCII digits alone or above 4294967295, or D is not ASCII
+///   digits alone or above 1024. Leading zeros are allowed; a sign, a blank or an empty word is
+///   rejected.
+/// - `Memory` (status 4) if an allocation fails.
 pub fn job(alloc: Global, words: &[&str]) -> Result<(Job, String, Option<String>), JobFault>
     ensures ok { IfOk result (λ j. IsJob j.0 (string_bytes j.1) (option_map string_bytes j.2)
         (subcommand_of line (map (λ s. s.now) words.now))) }

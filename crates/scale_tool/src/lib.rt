@@ -1,4 +1,5 @@
-//! The command `scaleview` without files and process: its engine over readers and writers, and its command line.
+//! The command `scaleview` without files and process: its engine over readers and writers, and its
+//! command line.
 #![tactic(auto)]
 
 mod commands;

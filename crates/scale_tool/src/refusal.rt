@@ -1,5 +1,5 @@
-//! Why the command answers nothing: what each part of a job may meet, and the refusal of the whole, which is the line on
-//! standard error and the exit status.
+//! Why the command has no answer: the faults of the parts of a job, and the refusal of the whole,
+//! which determines the line on standard error and the exit status.
 
 ghost use Rattle.std.specs.Prelude.{◌≡◌, IfNone, IfSome};
 ghost use Rattle.scale_tool.specs.Refused.{device_line, refusal_of_hex, refusal_of_registry};
@@ -12,7 +12,7 @@ use registry_core::RegistryFault;
 use scale_calls::{RegistryRefusal, UnknownReference};
 use std::alloc::AllocError;
 
-/// A file that does not open, or that a read or write fails on.
+/// A file that does not open, or on which a read or a write fails.
 #[derive(Clone, Copy, Debug, PartialEq, Eq)]
 pub enum Device {
     Registry,
@@ -21,7 +21,7 @@ pub enum Device {
 }
 
 impl Device {
-    /// The line that reports its failure.
+    /// Returns the line that reports its failure.
     pub(crate) fn line(self) -> &'static str
         ensures { result.now ≡ device_line self }
     {
@@ -36,7 +36,7 @@ impl Device {
 /// Why a text of hexadecimal digits holds no bytes, and where in its file.
 #[derive(Clone, Copy)]
 pub(crate) enum HexFault {
-    /// The digits are odd in number. The place is their end.
+    /// The number of digits is odd. The place is their end.
     Odd(u64),
     /// A byte that is no digit.
     Bad(u64),
@@ -46,7 +46,7 @@ pub(crate) enum HexFault {
 #[derive(Clone, Copy)]
 pub(crate) enum HexRefusal {
     Fault(HexFault),
-    /// Memory was refused.
+    /// An allocation failed.
     Memory,
 }
 
@@ -55,17 +55,17 @@ pub(crate) enum HexRefusal {
 pub(crate) enum Refusal {
     /// The first fault of the registry's bytes.
     Registry(RegistryFault),
-    /// Bytes follow the registry, which has so many.
+    /// Bytes follow the registry, which ends at this place.
     TrailingRegistry(u64),
-    /// A type refers to one that is not there.
+    /// A type refers to one that the registry lacks.
     Check(UnknownReference),
     /// The registry has no type at the position.
     UnknownType(u32),
-    /// The value's file is to hold digits, and does not.
+    /// The value's file should hold digits, and does not.
     Hex(HexFault),
     /// The first fault of the value's bytes.
     Value(DecodeFault),
-    /// Bytes follow the value, which has so many.
+    /// Bytes follow the value, which ends at this place.
     TrailingValue(u64),
     /// A read of the registry failed.
     RegistryDevice,
@@ -73,12 +73,12 @@ pub(crate) enum Refusal {
     ValueDevice,
     /// A write of the answer failed.
     OutputDevice,
-    /// Memory was refused.
+    /// An allocation failed.
     Memory,
 }
 
 impl Refusal {
-    /// The exit status: 1 for the input, 3 for a device, 4 for want of memory.
+    /// Returns the exit status: 1 for the input, 3 for a device, 4 for a failed allocation.
     pub(crate) fn status(self) -> u8
         ensures { result ≡ status_of self }
     {
@@ -89,7 +89,7 @@ impl Refusal {
         }
     }
 
-    /// The line of a device or of want of memory, for which no memory may be left.
+    /// Returns the line of a device or of a failed allocation, which needs no memory.
     pub(crate) fn fixed_line(self) -> Option<&'static str>
         ensures line { IfSome result (λ line. line.now ≡ refusal_line self) }
         ensures none { IfNone result (IsRejected self) }

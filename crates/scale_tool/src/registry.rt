@@ -1,4 +1,4 @@
-//! The registry of a job, checked, and the version of the metadata that it stood in.
+//! Reads the registry of a job, checks it, and finds its metadata's version.
 
 ghost use Rattle.std.specs.Prelude.{◌≡◌, ◌⊎◌, ◌<◌, ◌≤◌, length, true, None, Some, IfOk, IfErr};
 ghost use Rattle.std.specs.Prelude.{IfSome, IsErrOf};
@@ -16,7 +16,7 @@ use scale_core::{ReadOnce, Source};
 use std::alloc::Global;
 use widths_core::Checked;
 
-/// The registry that all the bytes hold, checked, and of metadata the version.
+/// Reads and checks the registry that all the bytes hold, with the metadata's version.
 fn checked_registry(
     alloc: Global,
     metadata: bool,
@@ -31,7 +31,7 @@ fn checked_registry(
     open_registry(alloc, metadata, bytes)
 }
 
-/// The registry that the source holds, checked, and of metadata the version.
+/// Reads and checks the registry of the source, with the metadata's version.
 pub(crate) fn read_types<R: ReadOnce>(
     alloc: Global,
     metadata: bool,
@@ -58,7 +58,7 @@ pub(crate) fn read_types<R: ReadOnce>(
     }
 }
 
-/// The registry, where the position is one of its types.
+/// Returns the registry if the position is one of its types.
 fn with_position(checked: Checked, id: u32) -> Result<Checked, Refusal>
     ensures ok { IfOk result (λ types. with_position id checked.types ≡ Some types.types) }
     ensures err { IfErr result (λ e. (e ≡ Refusal.UnknownType id)
@@ -70,7 +70,7 @@ fn with_position(checked: Checked, id: u32) -> Result<Checked, Refusal>
     }
 }
 
-/// The registry that the source holds, checked, where the position is one of its types.
+/// Reads and checks the registry of the source, which must have a type at the position.
 pub(crate) fn read_types_with<R: ReadOnce>(
     alloc: Global,
     metadata: bool,

@@ -1,4 +1,4 @@
-//! The line that reports a refusal, and its way to standard error.
+//! The line that reports a refusal on standard error.
 
 ghost use Rattle.std.specs.Prelude.{◌≡◌, ◌⊎◌, true, IfOk, string_bytes};
 ghost use Rattle.std.specs.Io.KnownBytes.{Appends};
@@ -18,7 +18,7 @@ fn placed_line(alloc: Global, part: &str, reason: &str, at: u64) -> Result<Strin
     format!(in alloc; "scaleview: {part}: {reason} at {at}\n")
 }
 
-/// The line of a refusal of the input.
+/// Returns the line of a refusal of the input.
 pub(crate) fn refusal_line(alloc: Global, refusal: Refusal) -> Result<String, AllocError>
     requires { IsRejected refusal }
     ensures { IfOk result (λ line. string_bytes line ≡ refusal_line refusal) }
@@ -39,7 +39,7 @@ pub(crate) fn refusal_line(alloc: Global, refusal: Refusal) -> Result<String, Al
     }
 }
 
-/// Writes the text to `err`. Where a write fails, nothing more is done.
+/// Writes the text to `err`. If a write fails, nothing more is done.
 pub(crate) fn report<E: WriteOnce>(text: &str, err: &mut Sink<E>)
     ensures sent { Sends E.writes E.contents err.old err.new text.now }
     ensures whole { (err.new.failed ≡ true)

@@ -1,4 +1,5 @@
-//! The program `scaleview`: opens the files that its command line names and hands out the engine's status.
+//! The program `scaleview`: opens the files that its command line names, and exits with the
+//! engine's status.
 #![tactic(auto)]
 
 use scale_core::{Sink, Source};
@@ -9,7 +10,7 @@ use std::process::ExitCode;
 use std::rt::{Env, Files};
 use std::{env, fs};
 
-/// The words of the command line, the program's name first.
+/// Returns the words of the command line, the program's name first.
 fn command_words<R: Env + AllocGlobal>(rt: &R) -> io::Result<Vec<String>> {
     let mut words = Vec::new(rt.alloc());
     for word in env::args(rt)? {
@@ -18,7 +19,7 @@ fn command_words<R: Env + AllocGlobal>(rt: &R) -> io::Result<Vec<String>> {
     Ok(words)
 }
 
-/// The words, lent.
+/// Borrows the words.
 fn lent_words(alloc: Global, words: &[String]) -> Result<Vec<&str>, AllocError> {
     let mut lent = Vec::with_capacity(alloc, words.len())?;
     for word in words {

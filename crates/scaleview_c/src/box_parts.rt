@@ -6,7 +6,7 @@ ghost use Rattle.std_alloc.specs.Box.Ownership.{box_owns};
 use std::alloc::Allocator;
 use std::marker::Model;
 
-/// The parts of a box. Who has them has what it holds, and the right to free its block.
+/// The parts of a box. Their owner owns what the box holds, and may free its block.
 pub struct BoxParts<T, A: Allocator> {
     pub(crate) at: *mut T,
     pub(crate) alloc: A,

@@ -1,4 +1,5 @@
-//! Answers as numbers, for callers that have no enums. The numbers are those of `clients/c/scaleview.h`, and stay.
+//! Answers as numbers, for callers that have no enums. The numbers are those of
+//! `clients/c/scaleview.h`, and never change.
 
 ghost use Rattle.std.specs.Prelude.{◌≡◌};
 ghost use Rattle.scaleview_c.specs.Codes.{counted, plain, progress_answer, refused};
@@ -9,33 +10,33 @@ use decode_core::{DecodeReason, Progress};
 use registry_core::RegistryReason;
 use scale_calls::{RegistryRefusal, ValueRefusal};
 
-/// The answer is there.
+/// The call succeeded.
 pub const OK: u32 = 0;
-/// The piece was taken, and the value goes on.
+/// The piece was taken, and the value is incomplete.
 pub const MORE: u32 = 1;
-/// The text has more bytes than there is room for.
+/// The text does not fit.
 pub const NO_ROOM: u32 = 2;
-/// Memory was refused.
+/// An allocation failed.
 pub const MEMORY: u32 = 3;
 /// A session of the registry is not freed yet.
 pub const LENT: u32 = 4;
-/// The handle is none, or one of the other kind.
+/// The handle is null, or of the other kind.
 pub const NO_HANDLE: u32 = 5;
-/// The handle that is to be set is not none.
+/// The handle that is to be set is not null.
 pub const TAKEN: u32 = 6;
 /// The registry has no type at the position.
 pub const UNKNOWN_TYPE: u32 = 201;
 
-/// What a call reports: its code, and numbers of which those that the code does not speak of are 0.
+/// What a call reports: its code, and numbers, which are 0 unless the code gives them a meaning.
 #[repr(C)]
 #[derive(Clone, Copy, Debug, PartialEq, Eq)]
 pub struct Answer {
     pub code: u32,
-    /// The position of the type that refers to one that is not there.
+    /// The position of the type that has an unknown reference.
     pub from: u32,
-    /// The place of a refusal in bytes.
+    /// The place of a refusal, in bytes.
     pub at: u64,
-    /// How many bytes a text has, how many types there are, or how many bytes of a piece are the value's.
+    /// The number of bytes of a text, of types, or of bytes of a piece that belong to the value.
     pub length: u64,
 }
 
@@ -78,7 +79,7 @@ fn value_code(reason: DecodeReason) -> u32
 }
 
 impl Answer {
-    /// A code alone.
+    /// Returns an answer of a code alone.
     pub(crate) fn plain(code: u32) -> Answer
         ensures { result ≡ plain code }
     {
@@ -90,7 +91,7 @@ impl Answer {
         }
     }
 
-    /// A code and a number.
+    /// Returns an answer of a code and a length.
     pub(crate) fn counted(code: u32, length: u64) -> Answer
         ensures { result ≡ counted code length }
     {
@@ -102,14 +103,15 @@ impl Answer {
         }
     }
 
-    /// What is reported of a text of so many bytes and memory with so much room: it stands there, or has no room.
+    /// Returns the answer of a text of `len` bytes and memory for `room` bytes: it was written, or
+    /// does not fit.
     pub(crate) fn of_text(len: usize, room: usize) -> Answer
         ensures { result ≡ text_answer len room }
     {
         Answer::counted(if len <= room { OK } else { NO_ROOM }, len as u64)
     }
 
-    /// A refusal and its place.
+    /// Returns the answer of a refusal at a place.
     fn refused(code: u32, at: u64) -> Answer
         ensures { result ≡ refused code at }
     {
@@ -121,7 +123,7 @@ impl Answer {
         }
     }
 
-    /// Why there is no registry.
+    /// Returns the answer that says why there is no registry.
     pub(crate) fn of_registry(refusal: RegistryRefusal) -> Answer
         ensures { result ≡ registry_answer refusal }
     {
@@ -138,7 +140,7 @@ impl Answer {
         }
     }
 
-    /// Why there is no value.
+    /// Returns the answer that says why there is no value.
     pub(crate) fn of_value(refusal: ValueRefusal) -> Answer
         ensures { result ≡ value_answer refusal }
     {
@@ -151,7 +153,7 @@ impl Answer {
         }
     }
 
-    /// How far a value is.
+    /// Returns the answer that says how far a value is.
     pub(crate) fn of_progress(progress: Progress) -> Answer
         ensures { result ≡ progress_answer progress }
     {

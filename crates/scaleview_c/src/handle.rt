@@ -1,4 +1,4 @@
-//! What is behind a pointer that C keeps.
+//! Handles: pointers that C keeps.
 
 ghost use Rattle.std.specs.Prelude.{◌≡◌, Option, Some, None, MatchOption};
 ghost use Rattle.scaleview_c.specs.declared.resource.Resource.{Resource as AHeld};
@@ -9,7 +9,7 @@ use std::alloc::Global;
 use std::marker::Model;
 use std::ptr;
 
-/// Nothing, or what a box holds. It is one pointer, whose type C does not see; null is nothing.
+/// A box behind one pointer whose type C does not see, or null.
 #[repr(C)]
 #[derive(Drop)]
 pub struct Handle {
@@ -25,7 +25,7 @@ impl Model for Handle {
 }
 
 impl Handle {
-    /// Keeps the pointer, and lets its type go.
+    /// Returns a handle of the pointer, without its type.
     pub fn of(parts: BoxParts<Resource, Global>) -> Handle
         ensures { result.value ≡ Some parts.held }
     {
@@ -33,7 +33,7 @@ impl Handle {
         Handle { at: at as *mut u8 }
     }
 
-    /// Gives the pointer its type again, where it is not null.
+    /// Returns the pointer with its type, or `None` if it is null.
     pub fn into_parts(self, alloc: Global) -> Option<BoxParts<Resource, Global>>
         ensures { MatchOption result (self.value ≡ None) (λ parts. self.value ≡ Some parts.held) }
     {
@@ -48,7 +48,7 @@ impl Handle {
         }
     }
 
-    /// Nothing.
+    /// Returns the null handle.
     pub fn none() -> Handle
         ensures { result.value ≡ None }
     {
@@ -58,7 +58,7 @@ impl Handle {
     }
 }
 
-/// The box behind a handle, where there is one.
+/// Returns the box behind a handle, or `None` if it is null.
 pub(crate) fn held_by(alloc: Global, handle: Handle) -> Option<Box<Resource>>
     ensures { MatchOption result (handle.value ≡ None) (λ held. handle.value ≡ Some held.value) }
 {
@@ -66,7 +66,7 @@ pub(crate) fn held_by(alloc: Global, handle: Handle) -> Option<Box<Resource>>
     Some(put_together(parts))
 }
 
-/// A handle of a box.
+/// Returns a handle of a box.
 pub(crate) fn handle_of(held: Box<Resource>) -> Handle
     ensures { result.value ≡ Some held.value }
 {

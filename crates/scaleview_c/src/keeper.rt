@@ -1,4 +1,4 @@
-//! What keeps boxes and counts sessions, as a thing that contracts can name.
+//! Keepers, which take boxes back and count sessions, so that contracts can name both.
 
 ghost use Rattle.std.specs.Prelude.{ℕ, ⊤};
 ghost use Rattle.scaleview_c.specs.Kept.{AnswersClose, Lends, TakesBack};
@@ -9,14 +9,14 @@ use crate::codes::{LENT, NO_HANDLE, OK};
 use crate::opened::Opened;
 use crate::resource::Resource;
 
-/// What takes boxes back, and knows how many sessions a registry has, with both as relations of which nothing else is
-/// known. No clause of the library says that a block was freed or what a cell holds, so what the calls do with boxes
-/// and counts is proved over every keeper, and they are made with `Heap`.
+/// A keeper takes boxes back and knows how many sessions a registry has.
+// No clause of the library says that a block was freed or what a cell holds. So both are relations
+// here, and what the calls do is proved over every keeper. The library uses `Heap`.
 pub trait Keeper {
-    /// In this state the registry has so many sessions.
+    /// That the registry has this many sessions in this state.
     ghost counts: { Self → AnOpened → ℕ → Type 0 };
 
-    /// Between these states one box was given back, which held this.
+    /// That one box, which held this, was given back between these states.
     ghost takes: { Self → AHeld → Self → Type 0 };
 
     /// Returns how many sessions the registry has.
@@ -27,12 +27,12 @@ pub trait Keeper {
     fn set_count(&mut self, registry: &Opened, sessions: u64)
         ensures { counts self.new registry.now sessions };
 
-    /// Takes the box back: what it holds is let go, and its memory is freed.
+    /// Takes the box back: drops what it holds, and frees its memory.
     fn take(&mut self, held: Box<Resource>)
         ensures { takes self.old held.value self.new };
 }
 
-/// The heap that all boxes are from, and the cells in which registries count their sessions.
+/// The heap of all boxes, and the cells in which registries count their sessions.
 #[derive(Drop)]
 pub struct Heap {}
 
@@ -70,7 +70,7 @@ pub(crate) fn take_back<K: Keeper>(keeper: &mut K, registry: &Opened)
     keeper.set_count(registry, sessions.saturating_sub(1));
 }
 
-/// What the close of a registry answers: `LENT` exactly where it has a session.
+/// Returns the code of closing a registry: `LENT` exactly if it has a session.
 pub(crate) fn close_code<K: Keeper>(keeper: &K, held: &Resource) -> u32
     ensures { AnswersClose K.counts keeper.now held.now result }
 {

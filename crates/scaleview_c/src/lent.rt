@@ -1,4 +1,4 @@
-//! What is behind a pointer that C lends.
+//! Handles that C lends for a call.
 
 ghost use Rattle.std.specs.Prelude.{◌≡◌, Option, Some, None, MatchOption};
 ghost use Rattle.scaleview_c.specs.declared.resource.Resource.{Resource as AHeld};
@@ -6,8 +6,7 @@ ghost use Rattle.scaleview_c.specs.declared.resource.Resource.{Resource as AHeld
 use crate::resource::Resource;
 use std::marker::Model;
 
-/// Nothing, or what a box holds, lent for good: C frees it only once nothing has it any more. It is the pointer of a
-/// handle.
+/// A borrowed handle: what its box holds, or null. C frees the box only once nothing borrows it.
 #[repr(C)]
 #[derive(Drop)]
 pub struct Lent {
@@ -23,7 +22,7 @@ impl Model for Lent {
 }
 
 impl Lent {
-    /// Gives the pointer its type again, where it is not null.
+    /// Returns what the box holds, or `None` if the pointer is null.
     pub fn get(self) -> Option<&'static Resource>
         ensures { MatchOption result (self.value ≡ None) (λ held. self.value ≡ Some held.now) }
     {

@@ -1,5 +1,5 @@
-//! What C calls of the decoder: registries and sessions behind handles, and answers as numbers. `clients/c/scaleview.h`
-//! says how they are called.
+//! The library for C: registries and sessions behind handles, and answers as numbers.
+//! `clients/c/scaleview.h` documents the calls.
 #![tactic(auto)]
 
 mod box_parts;

@@ -1,11 +1,11 @@
-//! A registry that is open, and how many sessions it has.
+//! An open registry, and how many sessions it has.
 
 ghost use Rattle.std.specs.Prelude.{◌≡◌};
 
 use std::cell::Cell;
 use widths_core::Checked;
 
-/// A registry that is open, and how many sessions it has.
+/// An open registry, and how many sessions it has.
 #[derive(Drop)]
 pub struct Opened {
     pub checked: Checked,
@@ -13,7 +13,7 @@ pub struct Opened {
 }
 
 impl Opened {
-    /// A registry without sessions.
+    /// Creates an open registry without sessions.
     pub(crate) fn new(checked: Checked) -> Opened
         ensures { result.checked ≡ checked }
     {

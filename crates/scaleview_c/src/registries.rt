@@ -19,7 +19,7 @@ use std::alloc::Global;
 use std::mem;
 use value_core::Limits;
 
-/// The registry that the bytes hold, and how many types it has.
+/// Opens the registry that the bytes hold, and returns its number of types.
 fn opened(
     alloc: Global,
     metadata: bool,
@@ -35,7 +35,7 @@ fn opened(
     }
 }
 
-/// Opens the registry that the bytes hold, alone or in metadata, behind a handle that is none.
+/// Opens the registry that the bytes hold, alone or in metadata, behind a null handle.
 #[unsafe(no_mangle)]
 pub extern "C" fn scaleview_open(
     alloc: Global,
@@ -63,7 +63,7 @@ pub extern "C" fn scaleview_open(
     answer.code
 }
 
-/// Gives the box of a registry back, where no session has the registry.
+/// Gives back the box of a registry that no session uses.
 pub fn close_in<K: Keeper>(alloc: Global, keeper: &mut K, registry: &mut Handle) -> u32
     ensures closed { ClosesRegistry registry.old.value registry.new.value result }
     // LENT exactly where a session has it, and then nothing changes.
@@ -82,7 +82,7 @@ pub fn close_in<K: Keeper>(alloc: Global, keeper: &mut K, registry: &mut Handle)
     code
 }
 
-/// Frees a registry that no session has.
+/// Frees a registry that no session uses.
 #[unsafe(no_mangle)]
 pub extern "C" fn scaleview_close(alloc: Global, registry: &mut Handle) -> u32
     ensures { ClosesRegistry registry.old.value registry.new.value result }
@@ -90,7 +90,7 @@ pub extern "C" fn scaleview_close(alloc: Global, registry: &mut Handle) -> u32
     close_in(alloc, &mut Heap {}, registry)
 }
 
-/// How many types a registry has.
+/// Reports the number of types of a registry.
 #[unsafe(no_mangle)]
 pub extern "C" fn scaleview_types(registry: Lent, answer: &mut Answer) -> u32
     ensures types { ReportsTypes registry.value answer.new }
@@ -149,7 +149,7 @@ fn write_value(
     }
 }
 
-/// Writes the JSON of the value of the type at a position that the bytes spell.
+/// Writes the JSON of the value, of the type at a position, that the bytes spell.
 #[unsafe(no_mangle)]
 pub extern "C" fn scaleview_decode(
     alloc: Global,

@@ -3,7 +3,7 @@
 use crate::opened::Opened;
 use crate::session::Session;
 
-/// A registry that is open, or a session of one.
+/// An open registry, or a session of one.
 #[derive(Drop)]
 pub enum Resource {
     Registry(Opened),

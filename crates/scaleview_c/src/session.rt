@@ -1,4 +1,4 @@
-//! A value on its way, over a registry that is lent.
+//! A value in progress, over a borrowed registry.
 
 ghost use Rattle.std.specs.Prelude.{◌≡◌};
 ghost use Rattle.decode_core.specs.Decoding.{node_count, text_bytes};
@@ -12,18 +12,18 @@ use json_core::json_text;
 use scale_calls::ValueRefusal;
 use std::alloc::Global;
 
-/// How far a value is.
+/// The stage of a value.
 #[derive(Drop)]
 pub enum Stage {
-    /// Bytes are taken.
+    /// It takes bytes.
     Decoding(Decoder<'static, Global>),
-    /// It was ended, and this is its JSON.
+    /// It has ended, and this is its JSON.
     Shown(String),
-    /// It was ended, and is refused.
+    /// It has ended, and was rejected.
     Refused(ValueRefusal),
 }
 
-/// A value on its way. It has no parameters, so its handle has none.
+/// A value in progress. The type has no parameters, so its handle has none.
 #[derive(Drop)]
 pub struct Session {
     pub stage: Stage,
@@ -31,7 +31,7 @@ pub struct Session {
 }
 
 impl Stage {
-    /// Takes the next piece, and reports how far the value is.
+    /// Feeds the next piece, and returns how far the value is.
     pub(crate) fn feed(&mut self, piece: &[u8]) -> Answer
         ensures { FeedsStage self.old piece.now self.new result }
     {
@@ -45,7 +45,7 @@ impl Stage {
         }
     }
 
-    /// How many bytes were taken.
+    /// Returns the number of bytes taken.
     pub(crate) fn taken(&self) -> u64
         ensures { result ≡ number_by taken_of self.now }
     {
@@ -55,7 +55,7 @@ impl Stage {
         }
     }
 
-    /// How many nodes are held.
+    /// Returns the number of nodes held.
     pub(crate) fn nodes(&self) -> u64
         ensures { result ≡ number_by node_count self.now }
     {
@@ -65,7 +65,7 @@ impl Stage {
         }
     }
 
-    /// How many bytes of texts are held.
+    /// Returns the number of bytes of texts and runs held.
     pub(crate) fn text_bytes(&self) -> u64
         ensures { result ≡ number_by text_bytes self.now }
     {
@@ -75,7 +75,7 @@ impl Stage {
         }
     }
 
-    /// Ends the value, where it is on its way.
+    /// Ends the value, if it has not ended.
     pub(crate) fn ended(self, alloc: Global) -> Stage
         ensures { Ends self result }
     {
@@ -91,7 +91,7 @@ impl Stage {
         }
     }
 
-    /// Writes the text of a value that was ended to the front of `out`.
+    /// Writes the text of an ended value to the front of `out`.
     pub(crate) fn put(&self, out: &mut [u8]) -> Answer
         ensures { WritesStage self.now out.old out.new result }
     {

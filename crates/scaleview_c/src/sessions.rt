@@ -21,7 +21,7 @@ use std::alloc::Global;
 use std::mem;
 use value_core::Limits;
 
-/// A session that has taken nothing.
+/// Creates a session that has taken no bytes.
 fn started(
     alloc: Global,
     registry: &'static Opened,
@@ -41,7 +41,7 @@ fn started(
     }
 }
 
-/// Starts a session of a registry behind a handle that is none, and counts it.
+/// Starts a session of a registry behind a null handle, and counts it.
 pub fn start_in<K: Keeper>(
     alloc: Global,
     keeper: &mut K,
@@ -72,7 +72,7 @@ pub fn start_in<K: Keeper>(
     }
 }
 
-/// Starts a value of the type at a position, behind a handle that is none.
+/// Starts a value of the type at a position, behind a null handle.
 #[unsafe(no_mangle)]
 pub extern "C" fn scaleview_start(
     alloc: Global,
@@ -97,7 +97,7 @@ pub extern "C" fn scaleview_start(
     answer.code
 }
 
-/// Takes the next piece.
+/// Feeds the next piece.
 #[unsafe(no_mangle)]
 pub extern "C" fn scaleview_feed(
     alloc: Global,
@@ -120,7 +120,7 @@ pub extern "C" fn scaleview_feed(
     answer.code
 }
 
-/// How many bytes of all pieces were taken.
+/// Reports the number of bytes taken of all pieces.
 #[unsafe(no_mangle)]
 pub extern "C" fn scaleview_taken(alloc: Global, session: &mut Handle, answer: &mut Answer) -> u32
     ensures reported { Reports taken_of session.old.value session.new.value answer.new }
@@ -138,7 +138,7 @@ pub extern "C" fn scaleview_taken(alloc: Global, session: &mut Handle, answer: &
     answer.code
 }
 
-/// How many nodes of the value are held.
+/// Reports the number of nodes held.
 #[unsafe(no_mangle)]
 pub extern "C" fn scaleview_nodes(alloc: Global, session: &mut Handle, answer: &mut Answer) -> u32
     ensures reported { Reports node_count session.old.value session.new.value answer.new }
@@ -156,7 +156,7 @@ pub extern "C" fn scaleview_nodes(alloc: Global, session: &mut Handle, answer: &
     answer.code
 }
 
-/// How many bytes of the value's texts are held.
+/// Reports the number of bytes of texts and runs held.
 #[unsafe(no_mangle)]
 pub extern "C" fn scaleview_text_bytes(
     alloc: Global,
@@ -206,7 +206,7 @@ pub extern "C" fn scaleview_finish(
     answer.code
 }
 
-/// Gives the box of a session back, which its registry doesn't count any more.
+/// Gives back the box of a session, which its registry no longer counts.
 pub fn free_in<K: Keeper>(alloc: Global, keeper: &mut K, session: &mut Handle) -> u32
     ensures freed { Frees session.old.value session.new.value result }
     ensures given_back { GivesSession K.counts K.takes keeper.old session.old.value keeper.new }

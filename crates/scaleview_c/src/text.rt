@@ -1,10 +1,10 @@
-//! Texts that go to memory of the caller's.
+//! Texts that are copied to memory of the caller.
 
 ghost use Rattle.scaleview_c.specs.Calls.{Writes};
 
 use crate::codes::Answer;
 
-/// Copies the text to the front of `out`, where it has room.
+/// Copies the text to the front of `out`, if it fits.
 pub(crate) fn put(out: &mut [u8], text: &[u8]) -> Answer
     ensures { Writes text.now out.old out.new result }
 {

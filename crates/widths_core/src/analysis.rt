@@ -1,5 +1,4 @@
-//! What a registry says of its types, found in two passes over them and one over the lists of
-//! references to each.
+//! Analyses a registry in two passes over its types and one over the references to each.
 
 ghost use Rattle.std.specs.Prelude.{◌≡◌, ◌<◌, ◌^◌, length, IfOk, IfErr};
 ghost use Rattle.registry_core.specs.Fits.{FitsRegistry};
@@ -36,7 +35,7 @@ struct Tables {
     widest: u32,
 }
 
-/// A registry with the looks that were taken at it, and what is kept of its types.
+/// A registry with the looks taken at it, and what is kept of its types.
 #[derive(Drop)]
 pub(crate) struct Analysis {
     pub examined: Examined,
@@ -46,10 +45,9 @@ pub(crate) struct Analysis {
     pub widest: u32,
 }
 
-/// Both looks at the types of a graph.
+/// Takes both looks at the types of a graph.
 ///
-/// A reference that is no position is found when it is read for its list, by the second look at the
-/// type that it stands in.
+/// An unknown reference is found when it is read for its list, in the second look at its type.
 fn read_types(alloc: Global, graph: &mut Graph) -> Result<Read, CheckFault>
     requires fits { FitsRegistry graph.old.registry }
     requires unread { IsUnread graph.old.registry graph.old }
@@ -67,8 +65,8 @@ fn read_types(alloc: Global, graph: &mut Graph) -> Result<Read, CheckFault>
     Ok(Read { linked, widest })
 }
 
-/// Why types for which memory was refused could not be read: the first reference that is no
-/// position, or want of memory where each is one. Only what was not read is read for it.
+/// Returns why types could not be read after a failed allocation: the first unknown reference, or
+/// `OutOfMemory` if every reference is known. Only what was not read is read for it.
 fn fault_of(graph: &mut Graph) -> CheckFault
     requires fits { length graph.old.registry < 2 ^ 32 }
     requires begun { IsUnderWay graph.old.registry graph.old }
@@ -80,7 +78,7 @@ fn fault_of(graph: &mut Graph) -> CheckFault
     }
 }
 
-/// Both looks at the types of a graph, or why these are refused.
+/// Takes both looks at the types of a graph, or returns why these are rejected.
 fn read_or_fault(alloc: Global, graph: &mut Graph) -> Result<Read, CheckFault>
     requires fits { FitsRegistry graph.old.registry }
     requires unread { IsUnread graph.old.registry graph.old }
@@ -95,7 +93,7 @@ fn read_or_fault(alloc: Global, graph: &mut Graph) -> Result<Read, CheckFault>
     }
 }
 
-/// The types of a graph settle.
+/// Settles the types of a graph.
 fn settle_types(alloc: Global, graph: &mut Graph, read: Read) -> Result<Tables, AllocError>
     requires { IsLinkedWith graph.old.registry read.linked read.widest graph.old }
     ensures analysed { IfOk result (λ t.
@@ -122,7 +120,7 @@ fn settle_types(alloc: Global, graph: &mut Graph, read: Read) -> Result<Tables, 
     })
 }
 
-/// What is kept of the types of a graph, or why they are refused.
+/// Returns what is kept of the types of a graph, or why they are rejected.
 fn tables_of(alloc: Global, graph: &mut Graph) -> Result<Tables, CheckFault>
     requires fits { FitsRegistry graph.old.registry }
     requires unread { IsUnread graph.old.registry graph.old }
@@ -134,7 +132,7 @@ fn tables_of(alloc: Global, graph: &mut Graph) -> Result<Tables, CheckFault>
     Ok(settle_types(alloc, graph, read)?)
 }
 
-/// What is found of the types of a registry, or why they are refused.
+/// Analyses a registry, or returns why it is rejected.
 pub(crate) fn analyse(alloc: Global, registry: Registry) -> Result<Analysis, (CheckFault, Registry)>
     ensures same { IfOk result (λ a. a.examined.registry ≡ registry) }
     ensures checked { IfOk result (λ a. IsChecked registry) }

@@ -1,4 +1,4 @@
-//! A registry whose references are known, and what it says of its types.
+//! A registry whose references are known, and what was found of its types.
 
 ghost use Rattle.std.specs.Prelude.{◌≡◌, ◌<◌, length, IfOk, IfErr, IfSome, SomeIff, option_map};
 ghost use Rattle.std.specs.Prelude.{slice_get};
@@ -23,19 +23,18 @@ use scale_core::Target;
 use std::alloc::Global;
 use std::marker::Model;
 
-/// A registry each of whose references is a position, with a small table of what was found of its
-/// types.
+/// A registry in which every reference is known, with a small table of what was found of its types.
 ///
-/// A reference is the type of a field, also in an arm that an earlier one of the same index
-/// shadows, the element of a sequence or of an array, also one of length 0, the member of a tuple,
-/// and what a compact wraps. The ids in type parameters and in bit sequences may be any.
+/// A reference is the type of a field (also in an arm that an earlier one of the same index
+/// shadows), the element of a sequence or an array (also one of length 0), the member of a tuple,
+/// and what a compact wraps. The ids in type parameters and in bit sequences are not checked.
 ///
-/// The table takes 12 bytes a type, 4 a reference and 13 an arm, shadowed ones too. While it is
-/// made, table and lists take at most 19 bytes a type, 12 a reference and 13 an arm; beside them,
+/// The table takes 12 bytes a type, 4 a reference and 13 an arm, including shadowed ones. While it
+/// is made, table and lists take at most 19 bytes a type, 12 a reference and 13 an arm, and
 /// counters and the order in which types settle take 36 bytes a type and 16 an arm.
 #[derive(Debug, Drop)]
 pub struct Checked {
-    /// The registry, with the looks that were taken at it.
+    /// The registry, with the looks taken at it.
     examined: Examined,
     /// All references, in the order of the registry's bytes: those of a type, and of an arm, are
     /// next to each other.
@@ -66,15 +65,16 @@ impl Checked {
     /// over it stands for.
     ///
     /// One pass over the types counts references and arms, one reads them, and one goes over the
-    /// lists of references to each type, so the time is in proportion to the registry. Memory is
-    /// taken after the first pass and before the second, and then for what is found, each vector in
-    /// its size at once. Where it is refused, what was not read is read for the first unknown
-    /// reference.
+    /// lists of references to each type, so the time is proportional to the registry. Each vector
+    /// is allocated once, at its final size.
     ///
-    /// Refuses, and hands the registry back unchanged:
-    /// - `UnknownType`, where a reference is no position: the first such reference by the type that
-    ///   it stands in, and then in the order of the definition's bytes;
-    /// - `OutOfMemory`, where every reference is a position and memory was refused, or there are
+    /// # Errors
+    ///
+    /// With the registry, unchanged:
+    ///
+    /// - `UnknownType` if a reference is unknown: the first one by the type that contains it, then
+    ///   by the order of the definition's bytes.
+    /// - `OutOfMemory` if every reference is known and an allocation fails, or there are
     ///   4,294,967,295 references or counters or more.
     pub fn new(alloc: Global, registry: Registry) -> Result<Checked, (CheckFault, Registry)>
         // Which answer it is.
@@ -104,53 +104,53 @@ impl Checked {
         })
     }
 
-    /// How many bytes the values of a type take, where the id is a position (SCALE codec, "Types"):
-    /// one look-up.
+    /// Returns how many bytes the values of a type take, or `None` if the registry lacks the type
+    /// (SCALE codec, "Types"). It takes one look-up.
     pub fn class(&self, id: TypeId) -> Option<Class>
         ensures { SomeIff result (id.0 < length self.now.types) (class_of self.now.types id.0) }
     {
         Some(self.step(id)?.class())
     }
 
-    /// What a compact integer of this type stands for (SCALE codec, "Compact/general integers"):
-    /// one look-up.
+    /// Returns what a compact integer of this type stands for (SCALE codec, "Compact/general
+    /// integers"). It takes one look-up.
     ///
-    /// There is none where the id is no position, where the type is no compact, and where the
-    /// compact wraps something else than an unsigned integer of at most 128 bits, nothing, or a
-    /// wrapper of one of these: composites of exactly one field, and tuples of exactly one member,
-    /// any number deep.
+    /// It is `None` if the registry lacks the type, the type is no compact, or the compact wraps
+    /// neither an unsigned integer of at most 128 bits, nor an empty type, nor a wrapper of one of
+    /// these: composites of exactly one field and tuples of exactly one member, at any depth.
     pub fn compact_target(&self, id: TypeId) -> Option<Target>
         ensures { result ≡ compact_target_of self.now.types id.0 }
     {
         self.step(id)?.compact_target()
     }
 
-    /// What a value of a type is read as, where the id is a position (SCALE codec, "Types"): one
-    /// look-up.
+    /// Returns how a value of a type is read, or `None` if the registry lacks the type (SCALE
+    /// codec, "Types"). It takes one look-up.
     pub fn step(&self, id: TypeId) -> Option<TypeStep>
         ensures { IsStepAt self.now.types id.0 result }
     {
         step_of(self.steps.as_slice(), id.0)
     }
 
-    /// The reference with this number, in the order of the registry's bytes from 0 on: one look-up.
+    /// Returns the reference with this number, counted from 0 in the order of the registry's bytes.
+    /// It takes one look-up.
     pub fn member(&self, at: u32) -> Option<u32>
         ensures { result ≡ slice_get (references_of self.now.types) at }
     {
         self.members.get(at as usize).copied()
     }
 
-    /// All references, in the order of the registry's bytes.
+    /// Returns all references, in the order of the registry's bytes.
     pub fn members(&self) -> &[u32]
         ensures { result.now ≡ references_of self.now.types }
     {
         self.members.as_slice()
     }
 
-    /// The first arm of the index, where the type is a variant that has one (scale-info,
-    /// `TypeDefVariant`): its position among the arms, and where the types of its fields are among
-    /// the references. Two look-ups where the indexes of the variant have no gap, and else at most
-    /// eight more.
+    /// Returns the first arm of the index if the type is a variant that has one (scale-info,
+    /// `TypeDefVariant`): its position among the arms, and the position of its field types among
+    /// the references. It takes two look-ups if the indexes of the variant have no gap, and
+    /// otherwise at most eight more.
     pub fn arm_step(&self, id: TypeId, index: u8) -> Option<ArmStep>
         ensures { IsArm (references_of self.now.types) result (arm_at self.now.types id.0 index) }
     {
@@ -158,8 +158,9 @@ impl Checked {
         self.rows.find(from, count, index)
     }
 
-    /// The first arm of the index, with its position among the arms, where the type is a variant
-    /// that has one (scale-info, `TypeDefVariant`): two look-ups more than `arm_step` makes.
+    /// Returns the first arm of the index, with its position among the arms, if the type is a
+    /// variant that has one (scale-info, `TypeDefVariant`). It takes two look-ups more than
+    /// `arm_step`.
     pub fn arm(&self, id: TypeId, index: u8) -> Option<(u32, &Arm)>
         ensures { option_map (λ x. (x.0, x.1.now)) result ≡ arm_at self.now.types id.0 index }
     {
@@ -170,15 +171,15 @@ impl Checked {
         }
     }
 
-    /// The greatest number of fields in one composite, of members in one tuple, or of fields in one
-    /// arm, also in one that is shadowed; 0 where there is none.
+    /// Returns the greatest number of fields of a composite, members of a tuple, or fields of an
+    /// arm, including shadowed ones; 0 if there are none.
     pub fn widest(&self) -> u32
         ensures { result ≡ widest self.now.types }
     {
         self.widest
     }
 
-    /// The registry that was checked, lent.
+    /// Returns the registry that was checked.
     pub fn registry(&self) -> &Registry
         ensures same { result.now ≡ self.now.types }
         ensures checked { IsChecked self.now.types }

@@ -5,20 +5,21 @@ ghost use Rattle.std.specs.Prelude.{◌≡◌};
 /// How many bytes the values of a type take.
 #[derive(Clone, Copy, Debug, PartialEq, Eq)]
 pub enum Class {
-    /// It has no finite value: a variant without arms is such a type, and one whose values would each hold another of
-    /// the same type, without end; and so is each type whose values have to hold one of those, a variant in every arm
-    /// that can be reached by its index.
+    /// The type has no finite value: it is a variant without arms, each of its values would contain
+    /// another of the same type, or each would contain a value of such a type, in every arm that
+    /// its index can reach.
     NoValue,
-    /// Its one value takes no bytes.
+    /// The type has one value, of no bytes.
     Empty,
-    /// It has values and takes bytes. Bit sequences, and compacts that stand over no unsigned integer, count as such.
+    /// The type has values, and they take bytes. Bit sequences, and compacts over no unsigned
+    /// integer, are also of this class.
     Sized,
 }
 
 impl Class {
     ghost use Rattle.widths_core.specs.ClassTables.{has_value};
 
-    /// Does a type of this class have a value?
+    /// Returns whether a type of this class has a value.
     pub(crate) fn has_value(self) -> bool
         ensures { result ≡ has_value self }
     {

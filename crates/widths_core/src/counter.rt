@@ -15,12 +15,12 @@ pub(crate) struct Found {
     pub target: Option<Target>,
 }
 
-/// As what the owner of a counter settles when the last of the counted parts has settled.
+/// What the owner of a counter settles as when the last of the counted parts has settled.
 #[derive(Clone, Copy)]
 pub(crate) enum Kind {
     /// Not at all: the parts say nothing of the owner.
     Idle,
-    /// As one that takes no bytes where no part does, and is no wrapper.
+    /// As a type that takes no bytes if no part does, and is no wrapper.
     Parts,
     /// As its one part.
     Wrap,
@@ -28,7 +28,7 @@ pub(crate) enum Kind {
     Compact,
     /// As an array of at least one value of its one part.
     Array,
-    /// Not at all: the one part is the element of a sequence, and says what the sequence's step is.
+    /// Not at all: the one part is the element of a sequence, and determines the step of that.
     Sequence,
     /// As this, whatever its parts are.
     Fixed(Found),
@@ -40,20 +40,21 @@ pub(crate) struct Counter {
     pub owner: u32,
     pub kind: Kind,
     pub left: u32,
-    /// Does a part that has settled take bytes?
+    /// Whether a part that has settled takes bytes.
     pub sized: bool,
 }
 
 const _: () = prove!(size_of::<Counter>() == 16);
 
-/// The class of a value of parts that all have values, where one takes bytes or none does.
+/// Returns the class of a value of parts that all have values, one of which takes bytes or none
+/// does.
 fn class_by(sized: bool) -> Class
     ensures { result ≡ class_by sized }
 {
     if sized { Class::Sized } else { Class::Empty }
 }
 
-/// The step of a type that settles with this class, where it is another one than before.
+/// Returns the new step of a type that settles with this class, if its step changes.
 fn empty_step(class: Class) -> Option<TypeStep>
     ensures { result ≡ empty_step class }
 {
@@ -63,8 +64,8 @@ fn empty_step(class: Class) -> Option<TypeStep>
     }
 }
 
-/// The step of a sequence of elements of this class, which are u8 itself or are not, where it is
-/// another one than before.
+/// Returns the new step of a sequence whose elements are of this class, and are u8 itself or not,
+/// if its step changes.
 fn element_step(class: Class, byte: bool) -> Option<TypeStep>
     ensures { result ≡ element_step class byte }
 {
@@ -76,8 +77,8 @@ fn element_step(class: Class, byte: bool) -> Option<TypeStep>
 }
 
 impl Kind {
-    /// What is found of the owner, where a part takes bytes or none does, and a compact over the
-    /// last part has this target.
+    /// Returns what is found of the owner if a part takes bytes or none does, and a compact over
+    /// the last part has this target.
     pub(crate) fn outcome(self, sized: bool, last: Option<Target>) -> Option<Found>
         ensures { result ≡ outcome self sized last }
     {
@@ -101,8 +102,8 @@ impl Kind {
             Kind::Fixed(found) => Some(found),
         }
     }
-    /// The step of an owner that settles with this class, where it is another one than before. The
-    /// last part, whose compact target this is, is u8 itself or is not.
+    /// Returns the new step of an owner that settles with this class, if its step changes. The last
+    /// part, whose compact target this is, is u8 itself or not.
     pub(crate) fn settled_step(
         self,
         class: Class,
@@ -124,8 +125,8 @@ impl Kind {
         }
     }
 
-    /// The step of an owner whose element has settled with this class, where it is another one than
-    /// before. The element is u8 itself or is not.
+    /// Returns the new step of an owner whose element has settled with this class, if its step
+    /// changes. The element is u8 itself or not.
     pub(crate) fn told_step(self, class: Class, byte: bool) -> Option<TypeStep>
         ensures { result ≡ told_step self class byte }
     {

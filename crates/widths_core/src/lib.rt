@@ -1,5 +1,5 @@
-//! What a registry says of its types: that their references are known, which have values, which take no bytes, what a
-//! compact integer stands for, and how many parts a value has at most.
+//! The analysis of a registry: that its references are known, which types have values, which take
+//! no bytes, what a compact integer stands for, and how many parts a value has at most.
 #![tactic(auto)]
 
 mod analysis;

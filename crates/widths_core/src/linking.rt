@@ -1,5 +1,4 @@
-//! One pass over a registry: references are checked and put into lists, and counters and steps are
-//! made.
+//! Reads a registry once: checks and lists references, and makes counters and steps.
 
 ghost use Rattle.std.specs.Prelude.{◌≡◌, ℕ, ◌<◌, ◌^◌, ◌++◌, ◌∷◌, [], length, false, None, IfOk};
 ghost use Rattle.std.specs.Prelude.{IfErr};
@@ -39,7 +38,7 @@ const EMPTY: Found = Found {
     target: None,
 };
 
-/// Adds a counter of so many parts, and answers its number.
+/// Adds a counter of this many parts, and returns its number.
 fn count_parts(
     counters: &mut Vec<Counter>,
     owner: u32,
@@ -68,7 +67,7 @@ fn count_parts(
     Ok(number as u32)
 }
 
-/// The references that are open are counted together. Answers where they are among all references.
+/// Counts the open references together, and returns their position among all references.
 fn link_parts(
     graph: &mut Graph,
     counters: &mut Vec<Counter>,
@@ -99,7 +98,7 @@ fn link_parts(
     })
 }
 
-/// The one reference that is open is counted alone. Answers the position that it is to.
+/// Counts the one open reference alone, and returns the position of its type.
 fn link_one(
     graph: &mut Graph,
     counters: &mut Vec<Counter>,
@@ -118,7 +117,7 @@ fn link_one(
     graph.next(counter)
 }
 
-/// The same number, where it is kept in four bytes.
+/// Returns the number in four bytes.
 fn number(value: usize) -> Result<u32, LinkStop>
     ensures same { IfOk result (λ n. n ≡ value) }
     ensures memory { IfErr result (λ stop. stop ≡ Memory) }
@@ -126,8 +125,8 @@ fn number(value: usize) -> Result<u32, LinkStop>
     u32::try_from(value).ok().ok_or(LinkStop::Memory)
 }
 
-/// The fields of each arm are counted together; those of an arm that an earlier one of its index
-/// shadows settle nothing. Answers the variant's step, unless it has no value.
+/// Counts the fields of each arm together; those of shadowed arms settle nothing. Returns the
+/// variant's step, which assumes that it has a value.
 fn link_arms(
     graph: &mut Graph,
     counters: &mut Vec<Counter>,
@@ -173,7 +172,7 @@ fn link_arms(
     })
 }
 
-/// As what a type settles that has so many parts, one value of each in each of its values.
+/// Returns what a type of this many parts, one value of each in each of its values, settles as.
 fn kind_of_parts(parts: usize) -> Kind
     ensures { result ≡ kind_of_parts parts }
 {
@@ -187,7 +186,7 @@ fn kind_of_parts(parts: usize) -> Kind
     }
 }
 
-/// The target that is an unsigned integer of this width.
+/// Returns the target of this width.
 fn width_target(width: IntegerWidth) -> Target
     ensures { result ≡ width_target width }
 {
@@ -200,7 +199,7 @@ fn width_target(width: IntegerWidth) -> Target
     }
 }
 
-/// What is found of a primitive type.
+/// Returns what is found of a primitive type.
 fn found_of_primitive(primitive: Primitive) -> Found
     ensures { result ≡ found_of_primitive primitive }
 {
@@ -214,7 +213,8 @@ fn found_of_primitive(primitive: Primitive) -> Found
     }
 }
 
-/// The fields or members of a type. Answers its step, unless it has no value or takes no bytes.
+/// Links the fields or members of a type, and returns its step, which assumes that it has a value
+/// and takes bytes.
 fn link_members(
     graph: &mut Graph,
     counters: &mut Vec<Counter>,
@@ -236,8 +236,8 @@ fn link_members(
     Ok(TypeStep::Parts { from, count })
 }
 
-/// The type of a sequence's elements: a sequence takes bytes whatever they are. Answers its step,
-/// unless they take no bytes or are u8.
+/// Links the type of a sequence's elements. A sequence takes bytes whatever they are. Returns its
+/// step, which assumes that they take bytes and are not u8.
 fn link_sequence(
     graph: &mut Graph,
     counters: &mut Vec<Counter>,
@@ -258,8 +258,8 @@ fn link_sequence(
     Ok(TypeStep::Sequence { element })
 }
 
-/// The type of an array's elements: an array of none takes no bytes whatever they are. Answers its
-/// step, unless it has no value, takes no bytes or has elements u8.
+/// Links the type of an array's elements. An array of none takes no bytes whatever they are.
+/// Returns its step, which assumes that it has a value, takes bytes and has no elements u8.
 fn link_array(
     graph: &mut Graph,
     counters: &mut Vec<Counter>,
@@ -284,7 +284,7 @@ fn link_array(
     Ok(TypeStep::Array { len, element })
 }
 
-/// What a compact wraps. Answers its step, unless there is a target.
+/// Links what a compact wraps, and returns its step, which assumes that it has no target.
 fn link_compact(
     graph: &mut Graph,
     counters: &mut Vec<Counter>,
@@ -302,7 +302,7 @@ fn link_compact(
     Ok(TypeStep::Compact(None))
 }
 
-/// A type without references, of which this is found. Answers this step.
+/// Settles a type without references as found, and returns its step.
 fn link_none(
     graph: &Graph,
     counters: &mut Vec<Counter>,
@@ -321,7 +321,7 @@ fn link_none(
     Ok(step)
 }
 
-/// A type of the definition that is open: its counters, its references, and its step as far as it
+/// Links the type of the open definition: its counters, its references, and its step as far as it
 /// is known.
 fn link_definition(
     graph: &mut Graph,
@@ -368,14 +368,13 @@ pub(crate) struct Linked {
     pub rows: Rows,
 }
 
-/// How many counters so many types with so many arms have at most. Answers `None` where the number
-/// is no `usize`.
+/// Returns how many counters this many types with this many arms have at most, or `None` if that is
+/// no `usize`.
 fn counters_of(types: usize, arms: usize) -> Option<usize> {
     types.checked_mul(2)?.checked_add(arms)
 }
 
-/// One pass over the types, which have so many arms: the counters, and the steps as far as they are
-/// known.
+/// Reads the types once: returns the counters, and the steps as far as they are known.
 ///
 /// A type has at most two counters beside those of its arms.
 pub(crate) fn link_types(

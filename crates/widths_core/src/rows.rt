@@ -1,4 +1,4 @@
-//! The arms of variants by their index, a row of them for each variant.
+//! The arms of variants by their index, in one row for each variant.
 
 ghost use Rattle.std.specs.Prelude.{◌≡◌, ◌≤◌, ◌+◌, length, OnOk, IfOk, MatchOption};
 ghost use Rattle.std.specs.List.{insert};
@@ -8,16 +8,15 @@ ghost use Rattle.widths_core.specs.Rows.{Rises, Inserts};
 use crate::type_step::ArmStep;
 use std::alloc::{AllocError, Global};
 
-/// The arms that no earlier arm of the same index shadows: for each variant a row of them, by ascending index.
-///
-/// An arm takes 13 bytes.
+/// The arms that no earlier arm of the same index shadows: one row for each variant, by ascending
+/// index. An arm takes 13 bytes.
 #[derive(Debug, Drop)]
 pub(crate) struct Rows {
     indexes: Vec<u8>,
     arms: Vec<ArmStep>,
 }
 
-/// Where an index is in a row: at once where the row has no gap, and else by at most eight halvings.
+/// Finds an index in a row: at once if the row has no gap, and otherwise by at most eight halvings.
 fn place_of(row: &[u8], index: u8) -> Option<usize>
     requires { Rises row.now 0 (length row.now) }
     ensures { MatchOption result (Lacks row.now 0 (length row.now) index)
@@ -35,7 +34,7 @@ fn place_of(row: &[u8], index: u8) -> Option<usize>
 }
 
 impl Rows {
-    /// No row yet, with memory for so many arms.
+    /// Creates no rows, with capacity for this many arms.
     pub(crate) fn with_capacity(alloc: Global, arms: usize) -> Result<Rows, AllocError>
         ensures { IfOk result (λ rows. HasNoRow rows) }
     {
@@ -45,14 +44,14 @@ impl Rows {
         })
     }
 
-    /// How many arms there are in all rows.
+    /// Returns the number of arms in all rows.
     pub(crate) fn len(&self) -> usize
         ensures { result ≡ length self.now.indexes.items }
     {
         self.indexes.len()
     }
 
-    /// Where an index is in the row from `first` to the end, or where it belongs.
+    /// Returns where an index is in the row from `first` to the end, or where it belongs.
     pub(crate) fn search(&self, first: usize, index: u8) -> Result<usize, usize>
         requires within { first ≤ length self.now.indexes.items }
         requires rises { Rises self.now.indexes.items first (length self.now.indexes.items) }
@@ -65,7 +64,7 @@ impl Rows {
         }
     }
 
-    /// Puts an arm at a place, before those that are there.
+    /// Inserts an arm before those from a position on.
     pub(crate) fn insert(&mut self, at: usize, index: u8, arm: ArmStep) -> Result<(), AllocError>
         requires paired { IsPaired self.old }
         requires within { at ≤ length self.old.indexes.items }
@@ -76,7 +75,7 @@ impl Rows {
         Ok(())
     }
 
-    /// The arm of an index in the row of so many arms from `from` on.
+    /// Returns the arm of an index in the row of `count` arms from `from` on.
     pub(crate) fn find(&self, from: u32, count: u32, index: u8) -> Option<ArmStep>
         requires paired { IsPaired self.now }
         requires within { from + count ≤ length self.now.indexes.items }

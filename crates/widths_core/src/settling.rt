@@ -1,5 +1,5 @@
-//! Types settle one by one, each with its class and target, as soon as its parts have, and their
-//! steps are completed.
+//! Settles types one by one, each with its class and target, once its parts have settled, and
+//! completes their steps.
 
 ghost use Rattle.std.specs.Prelude.{◌≡◌, ◌<◌, ◌≤◌, length, replicate, [], None, OnOk, IfOk};
 ghost use Rattle.widths_core.specs.Completing.{FinishesSteps};
@@ -35,7 +35,7 @@ pub(crate) struct Settling {
 }
 
 impl Settling {
-    /// No type has settled.
+    /// Creates the state in which no type has settled.
     pub(crate) fn new(alloc: Global, linked: Linked, count: usize) -> Result<Settling, AllocError>
         ensures { IfOk result (λ s.
             progress_of s ≡ record {
@@ -64,8 +64,7 @@ impl Settling {
         })
     }
 
-    /// A type settles as this, unless it has settled before. Its step becomes this one, where there
-    /// is one.
+    /// Settles a type as found, unless it has settled before, with its new step, if there is one.
     fn settle(&mut self, owner: u32, found: Found, step: Option<TypeStep>) -> Result<(), AllocError>
         requires { KnowsType (progress_of self.old) owner }
         ensures { OnOk result (progress_of self.new
@@ -84,8 +83,8 @@ impl Settling {
         Ok(())
     }
 
-    /// All parts of a counter have settled, and a compact over the last of them, which is u8 itself
-    /// or is not, has this target.
+    /// Settles the owner of a counter, all of whose parts have settled. A compact over the last of
+    /// them, which is u8 itself or not, has this target.
     fn complete(
         &mut self,
         counter: Counter,
@@ -106,7 +105,7 @@ impl Settling {
         }
     }
 
-    /// A part of a counter has settled as this, and is u8 itself or is not.
+    /// Counts a part that has settled as found, and is u8 itself or not.
     fn settle_part(&mut self, number: u32, found: Found, byte: bool) -> Result<(), AllocError>
         requires number { number < length self.old.counters.items }
         requires owner { KnowsType (progress_of self.old)
@@ -131,7 +130,7 @@ impl Settling {
         }
     }
 
-    /// What was found of a type is counted at each reference to it.
+    /// Counts what was found of a type at each reference to it.
     fn propagate(&mut self, graph: &mut Graph, propagated: u32) -> Result<(), AllocError>
         requires { IsPending graph.old.registry graph.old (progress_of self.old) propagated }
         ensures propagates { OnOk result (Propagates graph.old.registry graph.old graph.new
@@ -152,9 +151,8 @@ impl Settling {
         Ok(())
     }
 
-    /// What was found of the types that have settled is counted at each reference to them, until
-    /// nothing more settles. For the first ones that was done before. Answers how many have
-    /// settled.
+    /// Counts what was found of the types that have settled at each reference to them, until
+    /// nothing more settles. The first ones were counted before. Returns how many have settled.
     fn propagate_all(&mut self, graph: &mut Graph, first: usize) -> Result<usize, AllocError>
         requires { IsPropagatedTo graph.old.registry graph.old (progress_of self.old) first }
         ensures propagates { IfOk result (λ done. PropagatesAll graph.old.registry graph.old
@@ -170,8 +168,8 @@ impl Settling {
         Ok(done)
     }
 
-    /// Types without a part that has to settle first settle, and then each whose parts have.
-    /// Answers how many have settled.
+    /// Settles the types without a part that must settle first, then each whose parts have. Returns
+    /// how many have settled.
     pub(crate) fn begin(&mut self, graph: &mut Graph) -> Result<usize, AllocError>
         requires { IsStart graph.old.registry graph.old (progress_of self.old) }
         ensures propagates { IfOk result (λ done. PropagatesAll graph.old.registry graph.old
@@ -187,9 +185,8 @@ impl Settling {
         self.propagate_all(graph, 0)
     }
 
-    /// The compacts that have not settled wrap no unsigned integer: they settle as such, and then
-    /// each type whose parts have. The first types had settled before. Answers how many have
-    /// settled.
+    /// Settles the remaining compacts, which wrap no unsigned integer, then each type whose parts
+    /// have settled. The first types had settled before. Returns how many have settled.
     pub(crate) fn settle_bad_compacts(
         &mut self,
         graph: &mut Graph,
@@ -218,7 +215,7 @@ impl Settling {
         self.propagate_all(graph, first)
     }
 
-    /// The types that have not settled have no value: their steps say so.
+    /// Sets the steps of the types that have not settled: they have no value.
     pub(crate) fn finish(&mut self)
         requires { length self.old.classes.items ≡ length self.old.steps.items }
         ensures steps { FinishesSteps self.old.classes.items self.old.steps.items

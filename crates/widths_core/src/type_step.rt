@@ -1,4 +1,4 @@
-//! What a type is made of, in a few bytes.
+//! How a value of a type is read, in a few bytes.
 
 ghost use Rattle.std.specs.Prelude.{◌≡◌, slice_get};
 ghost use Rattle.widths_core.specs.Completing.{is_byte_step, of_bytes, without_value};
@@ -8,26 +8,25 @@ use crate::class::Class;
 use registry_core::Primitive;
 use scale_core::Target;
 
-/// Where parts are in the list of all references of a registry.
+/// The position of parts in the list of all references of a registry.
 #[derive(Clone, Copy)]
 pub(crate) struct Parts {
     pub from: u32,
     pub count: u32,
 }
 
-/// What a value of a type is read as, by the first of these that applies (SCALE codec, "Types"), in
-/// 12 bytes.
+/// How a value of a type is read, by the first of these that applies (SCALE codec, "Types"). It
+/// takes 12 bytes.
 ///
-/// Ids are given as their numbers. The numbers of references are those of `Checked::member`.
+/// Ids are given as numbers. The numbers of references are those of `Checked::member`.
 #[derive(Clone, Copy, Debug, PartialEq, Eq)]
 pub enum TypeStep {
-    /// As an unsigned integer in its compact form, which fits the target; without a target there is
-    /// none that fits.
+    /// As a compact unsigned integer that fits the target; without a target, not at all.
     Compact(Option<Target>),
-    /// Not at all, since no arm of the variant has a value: its arms are those of
+    /// Not at all, because no arm of the variant has a value. Its arms are those of
     /// `Checked::arm_step`.
     NoArm { from: u32, count: u32 },
-    /// Not at all, since the type has no value.
+    /// Not at all, because the type has no value.
     NoValue,
     /// From no bytes.
     Empty,
@@ -40,23 +39,23 @@ pub enum TypeStep {
     Arms { from: u32, count: u32 },
     /// As this many values of one type, which is not the primitive u8 itself.
     Array { len: u32, element: u32 },
-    /// As this many bytes, at least one: an array of the primitive u8 itself, and not of a wrapper
+    /// As this many bytes, at least one: an array of the primitive u8 itself, not of a wrapper
     /// around it.
     ByteArray { len: u32 },
-    /// As a length, and so many values of one type, which takes bytes or has no value, and is not
-    /// the primitive u8 itself.
+    /// As a length, then that many values of one type, which takes bytes or has no value, and is
+    /// not the primitive u8 itself.
     Sequence { element: u32 },
-    /// As a length, and so many bytes: a sequence of the primitive u8 itself, and not of a wrapper
+    /// As a length, then that many bytes: a sequence of the primitive u8 itself, not of a wrapper
     /// around it.
     Bytes,
-    /// As a length alone, since the elements take no bytes.
+    /// As a length alone, because the elements take no bytes.
     Count,
     /// As bits.
     BitSequence,
 }
 
-/// An arm of a variant: its position among the arms, and where the types of its fields are among
-/// the references.
+/// An arm of a variant: its position among the arms, and the position of its field types among the
+/// references.
 #[derive(Clone, Copy, Debug, PartialEq, Eq)]
 pub struct ArmStep {
     /// Its position among the arms.
@@ -68,7 +67,7 @@ pub struct ArmStep {
 }
 
 impl TypeStep {
-    /// The class of a type of this step.
+    /// Returns the class of a type of this step.
     pub(crate) fn class(self) -> Class
         ensures { result ≡ class_of_step self }
     {
@@ -79,7 +78,7 @@ impl TypeStep {
         }
     }
 
-    /// The step of an array of so many bytes, where this is the step of an array.
+    /// Returns the step of an array of as many bytes, if this is the step of an array.
     pub(crate) fn of_bytes(&self) -> Option<TypeStep>
         ensures { result ≡ of_bytes self.now }
     {
@@ -89,14 +88,14 @@ impl TypeStep {
         }
     }
 
-    /// Is this the step of u8 itself?
+    /// Returns whether this is the step of u8 itself.
     pub(crate) fn is_byte(&self) -> bool
         ensures { result ≡ is_byte_step self.now }
     {
         matches!(self, TypeStep::Primitive(Primitive::U8))
     }
 
-    /// The step of a type that turns out to have no value.
+    /// Returns the step of a type that turns out to have no value.
     pub(crate) fn without_value(self) -> TypeStep
         ensures { result ≡ without_value self }
     {
@@ -106,7 +105,7 @@ impl TypeStep {
         }
     }
 
-    /// Where the row of a variant of this step is.
+    /// Returns the position of a variant's row of arms.
     pub(crate) fn row(self) -> Option<Parts>
         ensures { result ≡ row_of_step self }
     {
@@ -119,7 +118,7 @@ impl TypeStep {
         }
     }
 
-    /// The target of a compact of this step.
+    /// Returns the target of a compact of this step.
     pub(crate) fn compact_target(self) -> Option<Target>
         ensures { result ≡ compact_of_step self }
     {
@@ -130,7 +129,7 @@ impl TypeStep {
     }
 }
 
-/// The step of a type, where it has one.
+/// Returns the step of a type, if there is one.
 pub(crate) fn step_of(steps: &[TypeStep], at: u32) -> Option<TypeStep>
     ensures { result ≡ slice_get steps.now at }
 {
