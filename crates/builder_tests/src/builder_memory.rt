@@ -45,8 +45,8 @@ const MIXED_CALLS: [Call<'static>; 18] = [
 const MIXED_BYTES: &[u8] =
     b"\x08ab\x0c\x01\x02\x03\x07\x07\x07\x07\x07\x07\x07\x07\x07\x07\x07\x07\x07\x07\x07\x07\x07\x07\x07\x07\x07\x07\x07\x07\x07\x07\x07\x07\x07\x07\x07\x07\x01\x01\x01\x01\x01\x00\x10\xc3\xa9\xc3\xa9";
 
-/// A registry, a type, a call that allocates between the calls before and after it, and the bytes of
-/// the value that they build.
+/// A registry, a type, a call that allocates between the calls before and after it, and the bytes
+/// of the value that they build.
 type Row = (
     &'static [u8],
     u32,
@@ -207,8 +207,8 @@ fn refused_calls<A: Allocator + Clone>(
     Ok(refused)
 }
 
-/// Builds a value where this request fails. One call reports it, and nothing stays allocated. Returns
-/// whether the request is made.
+/// Builds a value where this request fails. One call reports it, and nothing stays allocated.
+/// Returns whether the request is made.
 fn is_requested(
     rt: &impl Abort,
     alloc: Global,

@@ -1,4 +1,5 @@
-//! Runs of the command's engine over memory: what it answers, writes and reports, and which devices have failed.
+//! Runs of the command's engine over memory: what it answers, writes and reports, and which devices
+//! have failed.
 
 use crate::jobs::served;
 use scale_core::{Sink, Source};

@@ -121,7 +121,8 @@ const LONGEST: &[u8] = b"\xf2\xff\xff\x03";
 /// One more.
 const TOO_LONG: &[u8] = b"\x02\x00\x00\x04";
 
-// At most 16777216 bytes belong to a value: a text is refused as too long only where a further byte comes.
+// At most 16777216 bytes belong to a value: a text is refused as too long only where a further byte
+// comes.
 #[test]
 fn the_longest_text_is_shown(rt: HostRuntime) {
     check_letters(&rt, rt.alloc(), LONGEST, 16_777_212, "", 16_777_215);

@@ -1,4 +1,5 @@
-//! Devices that fail under the command, at each of their calls: what it answers, and what stands where it wrote.
+//! Devices that fail under the command, at each of their calls: what it answers, and what stands
+//! where it wrote.
 
 use crate::expect::same;
 use command_runs::jobs::decode;
@@ -66,8 +67,8 @@ fn each_read_of_a_registry_may_fail(rt: HostRuntime) {
     }
 }
 
-/// The value's reader gives this front, a byte a call, and fails then, if it is asked so far: a value that is shown is read
-/// to its end.
+/// The value's reader gives this front, a byte a call, and fails then, if it is asked so far: a
+/// value that is shown is read to its end.
 fn check_value_front(
     rt: &impl Abort,
     alloc: Global,

@@ -236,9 +236,11 @@ impl<'r, A: Allocator> Decoder<'r, A> {
     /// In the call that brings the deciding byte, with the place in bytes from the value's start:
     ///
     /// - the first error of the grammar;
-    /// - `TooLong` at the limit of bytes, if the value is incomplete there and another byte is given;
-    /// - `OutOfMemory` at 0, if an allocation fails. That happens only if the bytes of `taken()` are
-    ///   accepted, and then a complete node was to be added or bytes of a text or run to be kept.
+    /// - `TooLong` at the limit of bytes, if the value is incomplete there and another byte is
+    ///   given;
+    /// - `OutOfMemory` at 0, if an allocation fails. That happens only if the bytes of `taken()`
+    ///   are accepted, and then a complete node was to be added or bytes of a text or run to be
+    ///   kept.
     ///
     /// No nodes and no bytes are held after an error.
     pub fn feed(&mut self, piece: &[u8]) -> Result<Progress, DecodeFault>

@@ -114,8 +114,8 @@ fn feed_all<A: Allocator, R: ReadOnce>(
 /// - `Decode` with the decoder's error in these bytes, which is `Truncated` at their number if they
 ///   end within the value;
 /// - `TrailingBytes` at the value's length if another byte follows it;
-/// - `Device` if a read fails and the bytes before it leave the answer open: there are none, more are
-///   needed, or they are exactly the value's. `failed()` is true then, and otherwise unchanged.
+/// - `Device` if a read fails and the bytes before it leave the answer open: there are none, more
+///   are needed, or they are exactly the value's. `failed()` is true then, and otherwise unchanged.
 ///
 /// The reader loses what was read, at most 4096 bytes after the deciding one.
 pub fn decode_all<'r, A: Allocator + Clone, R: ReadOnce>(

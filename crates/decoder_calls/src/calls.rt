@@ -1,5 +1,5 @@
-//! The calls that tests make of decoders and of what shows values. What these promise stays here, so that no test's proof
-//! has to read it.
+//! The calls that tests make of decoders and of what shows values. What these promise stays here,
+//! so that no test's proof has to read it.
 
 use decode_core::{
     DecodeFault, Decoder, OpenFault, PiecesFault, Progress, StreamFault, decode_all, decode_pieces,

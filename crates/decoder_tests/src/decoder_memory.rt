@@ -30,7 +30,8 @@ fn a_failed_allocation_is_printed_by_its_name(rt: HostRuntime) -> Result<(), Fai
     Ok(())
 }
 
-// A decoder takes memory for its nodes and for its bytes through a clone each of what it is handed, and no more at first.
+// A decoder takes memory for its nodes and for its bytes through a clone each of what it is handed,
+// and no more at first.
 #[test]
 fn memory_that_is_refused_at_first_makes_no_decoder(rt: HostRuntime) -> Result<(), Fail> {
     let checked = checked(rt.alloc(), NESTED)?;
@@ -52,7 +53,8 @@ fn wanted_progress(place: usize) -> Progress {
     }
 }
 
-/// Feeds the nested value byte by byte: the place of the byte at which memory is refused, where it is.
+/// Feeds the nested value byte by byte: the place of the byte at which memory is refused, where it
+/// is.
 fn place_of_refusal<A: Allocator>(rt: &impl Abort, decoder: &mut Decoder<'_, A>) -> Option<u64> {
     'bytes: for (place, byte) in NESTED_BYTES.iter().enumerate() {
         let reported = feed(decoder, &[*byte]);
@@ -64,7 +66,8 @@ fn place_of_refusal<A: Allocator>(rt: &impl Abort, decoder: &mut Decoder<'_, A>)
     None
 }
 
-/// The decoder that was refused memory at this byte holds nothing, and each later call is refused too.
+/// The decoder that was refused memory at this byte holds nothing, and each later call is refused
+/// too.
 fn check_refused<A: Allocator>(rt: &impl Abort, decoder: Decoder<'_, A>, place: u64) {
     let mut decoder = decoder;
     let taken = held(&decoder).taken;
@@ -144,7 +147,8 @@ fn check_feeds(
     Ok(refused)
 }
 
-// Nodes, the bytes of texts and runs and the nodes that are open are kept apart, and each grows at least once.
+// Nodes, the bytes of texts and runs and the nodes that are open are kept apart, and each grows at
+// least once.
 #[test]
 fn each_refused_growth_ends_the_decoder(rt: HostRuntime) -> Result<(), Fail> {
     let checked = checked(rt.alloc(), NESTED)?;
@@ -167,7 +171,8 @@ struct Long<'c> {
     nodes: u64,
 }
 
-/// Feeds a long value in pieces of so many bytes, over memory of which this request is refused: was it made? Then the value is refused.
+/// Feeds a long value in pieces of so many bytes, over memory of which this request is refused: was
+/// it made? Then the value is refused.
 fn check_long(
     rt: &impl Abort,
     alloc: Global,
@@ -198,9 +203,9 @@ fn check_long(
     Ok(false)
 }
 
-// The list of open nodes takes memory once, and that of nodes for 16 at first. Then there is room for what the words that are left are
-// expected to bring, in six steps of at most four times as many: growing would take twelve requests more. How the bytes are cut
-// makes no difference.
+// The list of open nodes takes memory once, and that of nodes for 16 at first. Then there is room
+// for what the words that are left are expected to bring, in six steps of at most four times as
+// many: growing would take twelve requests more. How the bytes are cut makes no difference.
 #[test]
 fn a_long_list_makes_room_ahead(rt: HostRuntime) -> Result<(), Fail> {
     let checked = checked(rt.alloc(), WORDS)?;
@@ -228,8 +233,9 @@ fn a_long_list_makes_room_ahead(rt: HostRuntime) -> Result<(), Fail> {
     Ok(())
 }
 
-// The bytes of a text take memory for those of its first piece, and its node does. Between them there is room three times for what the
-// text lacks, at most for three times as many bytes as there are.
+// The bytes of a text take memory for those of its first piece, and its node does. Between them
+// there is room three times for what the text lacks, at most for three times as many bytes as there
+// are.
 #[test]
 fn a_long_text_in_pieces_makes_room_ahead(rt: HostRuntime) -> Result<(), Fail> {
     let checked = checked(rt.alloc(), TEXT)?;
@@ -251,7 +257,8 @@ fn a_long_text_in_pieces_makes_room_ahead(rt: HostRuntime) -> Result<(), Fail> {
     Ok(())
 }
 
-/// Finishes a decoder that was fed nothing, over memory of which this request is refused: was it made?
+/// Finishes a decoder that was fed nothing, over memory of which this request is refused: was it
+/// made?
 fn check_finish(
     rt: &impl Abort,
     checked: &Checked,

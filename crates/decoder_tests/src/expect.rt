@@ -1,4 +1,5 @@
-//! What tests compare by: a call, since what a macro writes in its place is proved again in every test.
+//! What tests compare by: a call, since what a macro writes in its place is proved again in every
+//! test.
 
 use std::fmt::Debug;
 use std::process::Abort;

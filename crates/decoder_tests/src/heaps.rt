@@ -1,4 +1,5 @@
-//! Decoders over heaps of fixed size: a length that is claimed takes no memory, and what does not fit is refused for good.
+//! Decoders over heaps of fixed size: a length that is claimed takes no memory, and what does not
+//! fit is refused for good.
 
 use crate::decoder_memory::REFUSED;
 use crate::expect::same;
@@ -121,8 +122,8 @@ fn claimed_lengths_fit_a_small_heap(rt: HostRuntime) -> Result<(), Fail> {
     Ok(())
 }
 
-// As many words are claimed, and a thousand are there, whose nodes take 24 kB. While these are moved there is room for them and for five
-// times as many.
+// As many words are claimed, and a thousand are there, whose nodes take 24 kB. While these are
+// moved there is room for them and for five times as many.
 #[test]
 fn a_claimed_length_takes_room_by_what_came(rt: HostRuntime) -> Result<(), Fail> {
     let heap = LocalHeap::new(rt.alloc(), 150_000)?;

@@ -1,4 +1,5 @@
-//! Inputs that are large: a decoder to which memory is granted answers them, and never says that it was refused.
+//! Inputs that are large: a decoder to which memory is granted answers them, and never says that it
+//! was refused.
 
 use crate::expect::same;
 use decode_core::{DecodeFault, DecodeReason, Decoder, Progress};
@@ -118,7 +119,8 @@ fn a_long_piece_is_taken_at_once(rt: HostRuntime) -> Result<(), Fail> {
     Ok(())
 }
 
-// A sequence of 1,100,000 words has more than 2^20 nodes. The program takes 3,000,000 (examples/check).
+// A sequence of 1,100,000 words has more than 2^20 nodes. The program takes 3,000,000
+// (examples/check).
 #[test]
 fn many_nodes_are_finished(rt: HostRuntime) -> Result<(), Fail> {
     let checked = checked(rt.alloc(), WORDS)?;
@@ -220,7 +222,8 @@ fn most_nodes(taken: u64, depth: u16, widest: u32) -> u64 {
         .saturating_mul(parts)
 }
 
-// Before the first byte a tuple of two units and a byte has three nodes, where 260 would be the most.
+// Before the first byte a tuple of two units and a byte has three nodes, where 260 would be the
+// most.
 #[test]
 fn nodes_stay_below_the_bound(rt: HostRuntime) -> Result<(), Fail> {
     let checked = checked(rt.alloc(), TWO_UNITS_AND_A_BYTE)?;

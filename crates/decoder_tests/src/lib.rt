@@ -1,4 +1,5 @@
-//! Tests of decoders: allocations and reads that fail, heaps of fixed size, large inputs, and the bytes of single nodes.
+//! Tests of decoders: allocations and reads that fail, heaps of fixed size, large inputs, and the
+//! bytes of single nodes.
 #![tactic(auto)]
 
 #[cfg(test)]

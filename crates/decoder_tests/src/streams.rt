@@ -41,7 +41,8 @@ fn check_reported(
     Ok(())
 }
 
-/// A reader that gives one byte a call and fails at one of its calls, where the first has the number 1.
+/// A reader that gives one byte a call and fails at one of its calls, where the first has the
+/// number 1.
 #[derive(Drop)]
 struct FailingReader {
     bytes: &'static [u8],
@@ -91,8 +92,8 @@ fn check_failure(
     Ok(true)
 }
 
-/// Readers that fail at each of their calls. A value of n bytes is read in n + 1 calls, the last of which reports the end;
-/// a row never takes more.
+/// Readers that fail at each of their calls. A value of n bytes is read in n + 1 calls, the last of
+/// which reports the end; a row never takes more.
 fn check_failures(rt: &impl Abort, alloc: Global, row: &Row) -> Result<(), Fail> {
     let name = row.name;
     let checked = checked(alloc, row.registry)?;
@@ -118,7 +119,8 @@ fn each_read_that_fails_is_reported_unless_all_was_decided(rt: HostRuntime) -> R
     Ok(())
 }
 
-/// What a reader that gives these bytes in one read, and then fails, is refused with, and whether it failed.
+/// What a reader that gives these bytes in one read, and then fails, is refused with, and whether
+/// it failed.
 fn refusal_before_failure(
     alloc: Global,
     registry: &[u8],
@@ -228,7 +230,8 @@ fn sequence(alloc: Global, elements: u16, behind: usize) -> Result<Vec<u8>, Fail
     Ok(bytes)
 }
 
-/// The refusal of a reader of all these bytes, a sequence of u8 on their front. Without one the bytes are the value's.
+/// The refusal of a reader of all these bytes, a sequence of u8 on their front. Without one the
+/// bytes are the value's.
 fn refusal_of_sequence(
     rt: &impl Abort,
     alloc: Global,
@@ -260,7 +263,8 @@ fn check_edge(rt: &impl Abort, alloc: Global, len: u16, behind: usize) -> Result
     Ok(())
 }
 
-// A read asks for at most 4096 bytes, so that the value and what follows it may come in one read or in two.
+// A read asks for at most 4096 bytes, so that the value and what follows it may come in one read or
+// in two.
 #[test]
 fn a_byte_after_is_reported_at_the_edge_of_a_read(rt: HostRuntime) -> Result<(), Fail> {
     'lengths: for len in [4095, 4096, 4097, 8191, 8192, 8193u16] {

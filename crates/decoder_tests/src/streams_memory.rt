@@ -61,7 +61,8 @@ fn check_nested<A: Allocator>(
     Ok(())
 }
 
-/// Decodes a reader over the memory: why it is refused. Without a refusal the value is the nested one.
+/// Decodes a reader over the memory: why it is refused. Without a refusal the value is the nested
+/// one.
 fn refusal_of_reader<A: Allocator + Clone>(
     rt: &impl Abort,
     alloc: Global,
@@ -80,7 +81,8 @@ fn refusal_of_reader<A: Allocator + Clone>(
     }
 }
 
-/// Decodes two pieces over the memory: why they are refused. Without a refusal the value is the nested one.
+/// Decodes two pieces over the memory: why they are refused. Without a refusal the value is the
+/// nested one.
 fn refusal_of_pieces<A: Allocator + Clone>(
     rt: &impl Abort,
     alloc: Global,

@@ -1,5 +1,5 @@
-//! The calls: each is made once, and a line says what came of it. There is none where memory was refused before the
-//! call.
+//! The calls: each is made once, and a line says what came of it. There is none where memory was
+//! refused before the call.
 
 use crate::sample;
 use json_core::{PrintFault, json_text, json_to_slice, print, to_json};

@@ -1,6 +1,7 @@
-//! The program `direct_calls`: makes one public call over the global allocator, on a small input of its own, and says
-//! in a line on standard output what came of it. `examples/check-memory` refuses its requests for memory. The status is
-//! 0 where the line is written, 2 where the words name no call, and 3 where the output failed.
+//! The program `direct_calls`: makes one public call over the global allocator, on a small input of
+//! its own, and says in a line on standard output what came of it. `examples/check-memory` refuses
+//! its requests for memory. The status is 0 where the line is written, 2 where the words name no
+//! call, and 3 where the output failed.
 #![tactic(auto)]
 
 mod calls;
@@ -21,7 +22,8 @@ const USAGE: &str =
 /// Why no call was made.
 #[derive(Clone, Copy)]
 enum NoCall {
-    /// The words or the input of the call are not there, for want of memory or since a word is not UTF-8.
+    /// The words or the input of the call are not there, for want of memory or since a word is not
+    /// UTF-8.
     NotReady,
     /// The words name no call.
     Usage,

@@ -6,9 +6,10 @@ use std::alloc::Global;
 use value_core::{Limits, Value};
 use widths_core::Checked;
 
-/// A registry after the prefix of metadata: a text, a u128, a u256, an option of a character, the character, the unit, a
-/// sequence of units, a compact u128, a composite of six of these and of the tenth and the last type, a composite of two
-/// characters, a u8 and a sequence of it, in their one spelling. The names of both composites are out of order.
+/// A registry after the prefix of metadata: a text, a u128, a u256, an option of a character, the
+/// character, the unit, a sequence of units, a compact u128, a composite of six of these and of the
+/// tenth and the last type, a composite of two characters, a u8 and a sequence of it, in their one
+/// spelling. The names of both composites are out of order.
 pub(crate) const METADATA: &[u8] = b"meta\x0e\x30\
       \x00\x00\x00\x05\x02\x00\
       \x04\x00\x00\x05\x07\x00\
@@ -39,8 +40,8 @@ const PREFIX: usize = 5;
 /// The position of the composite of eight fields.
 pub(crate) const TYPE: TypeId = TypeId(8);
 
-/// A value of the composite: the text SCALE, 7, 1 in 32 bytes, the character x, three units, 1, the characters y and z,
-/// and the bytes 7 and 255.
+/// A value of the composite: the text SCALE, 7, 1 in 32 bytes, the character x, three units, 1, the
+/// characters y and z, and the bytes 7 and 255.
 pub(crate) const VALUE: &[u8] =
     b"\x14SCALE\x07\x00\x00\x00\x00\x00\x00\x00\x00\x00\x00\x00\x00\x00\x00\x00\x01\x00\x00\x00\
       \x00\x00\x00\x00\x00\x00\x00\x00\x00\x00\x00\x00\x00\x00\x00\x00\x00\x00\x00\x00\x00\x00\x00\

@@ -1,4 +1,5 @@
-//! The calls that write one value after what a vector holds: each is made once, and a line says what came of it.
+//! The calls that write one value after what a vector holds: each is made once, and a line says
+//! what came of it.
 
 use crate::calls::line_where;
 use scale_core::{
@@ -69,8 +70,8 @@ fn write(out: &mut Vec<u8>, name: &str) -> Option<Written> {
     write_other(out, name)
 }
 
-/// The line of the call of this name: that the bytes stand after the front, or that the front alone stands. An error
-/// where there is no memory for the front.
+/// The line of the call of this name: that the bytes stand after the front, or that the front alone
+/// stands. An error where there is no memory for the front.
 pub(crate) fn write_line(alloc: Global, name: &str) -> Result<Option<&'static str>, AllocError> {
     let mut out = Vec::from_slice(alloc, FRONT)?;
     let Some((answer, bytes)) = write(&mut out, name) else {

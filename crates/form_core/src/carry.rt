@@ -1,12 +1,11 @@
-//! The bytes of a node that a piece cut.
+//! The first bytes of a node that a piece cut.
 
 ghost use Rattle.std.specs.Prelude.{◌≡◌, ◌≤◌, ◌-◌, ◌++◌, ◌==◌, [], length, take, min};
 ghost use Rattle.form_core.specs.Needs.{IsFirst};
 
 use std::marker::Model;
 
-/// At most 32 bytes: those of an integer, a character, a compact integer or an index that came so
-/// far.
+/// At most 32 bytes: the first ones of an integer, a character, a compact integer or an index.
 #[derive(Drop)]
 pub struct Carry {
     bytes: [u8; 32],
@@ -24,7 +23,7 @@ impl Model for Carry {
 }
 
 impl Carry {
-    /// No bytes.
+    /// Creates an empty carry.
     pub fn new() -> Carry
         ensures { result ≡ [] }
     {
@@ -34,14 +33,14 @@ impl Carry {
         }
     }
 
-    /// Are there no bytes?
+    /// Returns whether there are no bytes.
     pub fn is_empty(&self) -> bool
         ensures { result ≡ (length self.now == 0) }
     {
         self.len == 0
     }
 
-    /// The first byte of these and of a piece that follows them.
+    /// Returns the first of these bytes followed by those of a piece.
     pub fn first_with(&self, piece: &[u8]) -> u8
         requires { 1 ≤ length piece.now }
         ensures { IsFirst result (self.now ++ piece.now) }
@@ -52,7 +51,7 @@ impl Carry {
         }
     }
 
-    /// The bytes, lent.
+    /// Returns the bytes.
     pub fn as_slice(&self) -> &[u8]
         ensures bytes { result.now ≡ self.now }
         ensures bound { length self.now ≤ 32 }
@@ -60,14 +59,14 @@ impl Carry {
         &self.bytes[..self.len]
     }
 
-    /// Lets the bytes go.
+    /// Removes all bytes.
     pub fn clear(&mut self)
         ensures { self.new ≡ [] }
     {
         self.len = 0;
     }
 
-    /// Lets those after the first `count` bytes go.
+    /// Keeps the first `count` bytes.
     pub fn truncate(&mut self, count: usize)
         requires { count ≤ length self.old }
         ensures { self.new ≡ take count self.old }
@@ -75,7 +74,7 @@ impl Carry {
         self.len = count;
     }
 
-    /// Takes bytes off the piece until there are `want` or the piece ends: how many it took.
+    /// Appends bytes of the piece until there are `want` or the piece ends, and returns how many.
     #[inline(always)]
     pub fn fill(&mut self, want: usize, piece: &[u8]) -> usize
         requires { (length self.old ≤ want) × (want ≤ 32) }

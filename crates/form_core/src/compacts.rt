@@ -1,4 +1,4 @@
-//! A compact integer that stands whole on the front of a piece.
+//! Finds a complete compact integer at the start of a piece.
 
 ghost use Rattle.std.specs.Prelude.{◌≤◌, IfNone, IfSome, IsErr};
 ghost use Rattle.scale_core.specs.Compact.{target_bytes};
@@ -7,10 +7,10 @@ ghost use Rattle.form_core.specs.WholeCompacts.{IsCompactAtFront};
 
 use scale_core::{Target, read_compact, read_u32, read_u64};
 
-/// The number and the length of a compact integer of one, two or four bytes, off a word of four.
-/// Its two low bits tell which, and no jump is taken on them, since none could be foretold. There
-/// is none where they name the fourth form, where a shorter form has the number, and where fewer
-/// than four bytes are there.
+/// Returns the number and the length of a compact integer of one, two or four bytes, from a word of
+/// four. It is `None` if the word is of the long mode, a shorter form has the number, or fewer than
+/// four bytes are there.
+// No jump depends on the two bits of the mode, which would be hard to predict.
 #[inline(always)]
 fn short_mode(piece: &[u8]) -> Option<(u32, usize)>
     ensures { IfSome result (λ x. (m : Target) → 4 ≤ target_bytes m →
@@ -31,9 +31,9 @@ fn short_mode(piece: &[u8]) -> Option<(u32, usize)>
     Some((number, len))
 }
 
-/// The number and the length of a compact integer of the fourth form, off the eight bytes after its
-/// first one. There is none where it is of another form, where it has more bytes than these or than
-/// the target, where a shorter form has the number, and where fewer than eight are there.
+/// Returns the number and the length of a compact integer of the long mode, from the eight bytes
+/// after its first one. It is `None` for another mode, for more bytes than these or than the target
+/// has, if a shorter form has the number, and if fewer than eight bytes are there.
 #[inline(always)]
 fn long_mode(target: Target, piece: &[u8]) -> Option<(u64, usize)>
     ensures { IfSome result (λ x. IsCompactAtFront target piece.now x.0 x.1) }
@@ -55,8 +55,8 @@ fn long_mode(target: Target, piece: &[u8]) -> Option<(u64, usize)>
     Some((number, count + 1))
 }
 
-/// The same of any compact integer: one at the end of a piece, a longer one, or one for a target of
-/// a byte or two.
+/// Returns the number and the length of any compact integer: also one at the end of a piece, a
+/// longer one, or one for a target of one or two bytes.
 #[inline(never)]
 fn any_form(target: Target, piece: &[u8]) -> Option<(u128, usize)>
     ensures some { IfSome result (λ x. IsCompactAtFront target piece.now x.0 x.1) }
@@ -68,10 +68,10 @@ fn any_form(target: Target, piece: &[u8]) -> Option<(u128, usize)>
     Some(found)
 }
 
-/// The compact integer that stands whole on the front of the piece, and how many bytes it has, 1 to
-/// 17 (SCALE codec, "Compact/General Integers"). There is none where bytes of it are missing, where
-/// the target can't hold it, and where a shorter form has its number. Where the target is `Unit` it
-/// is 0, in no byte. It takes no memory.
+/// Returns the compact integer that begins the piece and how many bytes it has, 1 to 17 (SCALE
+/// codec, "Compact/General Integers"). It is `None` if bytes of it are missing, the target lacks
+/// the number, or a shorter form has it. For the target `Unit` it is 0, of no bytes. It allocates
+/// nothing.
 #[inline(always)]
 pub fn whole_compact(target: Target, piece: &[u8]) -> Option<(u128, usize)>
     ensures some { IfSome result (λ x. IsCompactAtFront target piece.now x.0 x.1) }

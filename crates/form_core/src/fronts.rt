@@ -1,4 +1,4 @@
-//! A node without parts that stands whole on the front of a piece, read by its form.
+//! Finds a complete node without parts at the start of a piece, by its form.
 
 ghost use Rattle.std.specs.Prelude.{ℕ, List, ◌≤◌, IfNone, IfSome, IsErr, length};
 ghost use Rattle.scale_core.specs.Read.{compact_at};

@@ -1,6 +1,5 @@
-//! The form of the node that is next in a value, by whether it has bytes of its own, how many these
-//! are, room for those of them that came, what they spell, and the nodes without parts that stand
-//! whole on the front of a piece.
+//! A node's own bytes: how many there are, what they spell, how those of a cut node are kept, and
+//! complete nodes without parts at the start of a piece.
 #![tactic(auto)]
 
 mod carry;

@@ -7,7 +7,7 @@ ghost use Rattle.form_core.specs.Needs.{compact_need, need};
 use crate::forms::{BytesForm, PlainForm};
 use scale_core::Target;
 
-/// How many bytes a compact integer has, or decide that it is refused.
+/// Returns how many bytes a compact integer has, or how many decide that it is rejected.
 #[inline(always)]
 fn compact_need(target: Target, first: u8) -> usize
     ensures exact { result ≡ compact_need target first }
@@ -29,7 +29,7 @@ fn compact_need(target: Target, first: u8) -> usize
     }
 }
 
-/// How many bytes a node without parts has, or how many decide that it is refused.
+/// Returns how many bytes a node without parts has, or how many decide that it is rejected.
 #[inline(always)]
 fn plain_need(form: PlainForm, first: u8) -> usize
     ensures exact { result ≡ need (form_of_plain form) first }
@@ -46,9 +46,9 @@ fn plain_need(form: PlainForm, first: u8) -> usize
     }
 }
 
-/// How many bytes a node of this form has of its own, by the first of them, or how many decide that
-/// it is refused (SCALE codec, "Compact/General Integers"); of a text or a run of bytes its length
-/// alone. They are 1 to 32.
+/// Returns how many bytes a node of this form has of its own, given the first, or how many decide
+/// that it is rejected (SCALE codec, "Compact/General Integers"): 1 to 32. For a text or a run of
+/// bytes they are those of its length.
 #[inline(always)]
 pub fn need(form: BytesForm, first: u8) -> usize
     ensures exact { result ≡ need (form_of_bytes form) first }

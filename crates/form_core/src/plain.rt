@@ -1,4 +1,4 @@
-//! A node without parts that few bytes spell, and a length, read off their own bytes.
+//! Reads a node without parts, or a length, from its own bytes.
 
 ghost use Rattle.std.specs.Prelude.{IfOk};
 ghost use Rattle.scale_core.specs.Read.{compact_at, number_at, signed_at};
@@ -16,7 +16,7 @@ use scale_core::{
     read_i128, read_u8, read_u16, read_u32, read_u64, read_u128,
 };
 
-/// Reads an unsigned integer of this width off the front of the bytes.
+/// Reads an unsigned integer of this width from the front of the bytes.
 #[tactic(auto, using(crate::proofs::ReadFronts::read_is))]
 #[inline(always)]
 fn read_unsigned(width: IntegerWidth, own: &[u8]) -> Result<u128, Fault>
@@ -31,7 +31,7 @@ fn read_unsigned(width: IntegerWidth, own: &[u8]) -> Result<u128, Fault>
     })
 }
 
-/// Reads a signed integer of this width off the front of the bytes.
+/// Reads a signed integer of this width from the front of the bytes.
 #[tactic(auto, using(crate::proofs::ReadFronts::read_is))]
 fn read_signed(width: IntegerWidth, own: &[u8]) -> Result<i128, Fault>
     ensures { ReadsFront own.now result (signed_at (width_bytes width) own.now) }
@@ -45,13 +45,14 @@ fn read_signed(width: IntegerWidth, own: &[u8]) -> Result<i128, Fault>
     })
 }
 
-/// The length that stands in front of a text, a sequence or a run of bytes, read off the front of
-/// the bytes (SCALE codec, "Compact/General Integers"): a compact integer of at most 32 bits. It
-/// takes no memory.
+/// Reads the length before a text, a sequence or a run of bytes from the front of the bytes (SCALE
+/// codec, "Compact/General Integers"): a compact integer of at most 32 bits. It allocates nothing.
 ///
-/// Refuses as `read_compact` does for 32 bits: with `Truncated` at their length too few bytes, with
-/// `CompactNotShortest` at 0 a form longer than the number needs, and with `CompactTooLarge` at 0 a
-/// number past 32 bits.
+/// # Errors
+///
+/// - `Truncated` at the length of `own` if it has too few bytes.
+/// - `CompactNotShortest` at 0 if the form is longer than the number needs.
+/// - `CompactTooLarge` at 0 if the number has more than 32 bits.
 pub fn read_length(own: &[u8]) -> Result<u32, Fault>
     ensures { ReadsFront own.now result (compact_at Target.U32 own.now) }
 {
@@ -59,12 +60,14 @@ pub fn read_length(own: &[u8]) -> Result<u32, Fault>
     Ok(length as u32)
 }
 
-/// A node without parts, read off its own bytes, which are as many as its form needs (SCALE codec,
-/// "Types"). It takes no memory: a 256-bit integer lends its 32 bytes.
+/// Reads a node without parts from its own bytes, as many as its form needs (SCALE codec, "Types").
+/// It allocates nothing: a 256-bit integer borrows its 32 bytes.
 ///
-/// Refuses, at the place from the first of them: with `BadBool` at 0 a boolean other than `00` and
-/// `01`, with `BadChar` at 0 four bytes that are no character, and compact integers and counts as
-/// `read_compact` does.
+/// # Errors
+///
+/// - `BadBool` at 0 if the byte of a boolean is neither `00` nor `01`.
+/// - `BadChar` at 0 if four bytes are no character.
+/// - Those of `read_compact` for compact integers and counts.
 #[inline(always)]
 pub fn read_plain<'b>(form: PlainForm, own: &'b [u8]) -> Result<Leaf<'b>, Fault>
     requires { AreOwn (form_of_plain form) own.now }

@@ -1,4 +1,4 @@
-//! A text or a run of bytes that stands whole on the front of a piece.
+//! Finds a complete text or run of bytes at the start of a piece.
 
 ghost use Rattle.std.specs.Prelude.{◌↔◌, IfNone, IfSome, IsErr, IsTrue, IsUtf8};
 ghost use Rattle.grammar_core.specs.Runs.{run_at, run_length_at};

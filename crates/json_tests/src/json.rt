@@ -14,8 +14,8 @@ use std::process::Abort;
 use std::test::Fail;
 use value_core::{Builder, Value, WriteFault};
 
-/// Memory of each size up to a byte more than the text: the text is put to the front where it has room, and nothing else
-/// changes.
+/// Memory of each size up to a byte more than the text: the text is put to the front where it has
+/// room, and nothing else changes.
 fn check_slice(
     rt: &impl Abort,
     alloc: Global,
@@ -80,7 +80,8 @@ fn check_place(
     }
 }
 
-/// Decodes the row's value, and looks at every room for its text and at every place where a writer may end.
+/// Decodes the row's value, and looks at every room for its text and at every place where a writer
+/// may end.
 fn check_row(rt: &impl Abort, alloc: Global, row: &Row) -> Result<(), Fail> {
     let checked = checked(alloc, row.registry)?;
     let Ok((value, _)) = front_of(alloc, &checked, row.ty, AMPLE, &[row.bytes]) else {

@@ -1,4 +1,5 @@
-//! An example of the library: an account, whose bytes come in pieces, is decoded, walked and printed as JSON.
+//! An example of the library: an account, whose bytes come in pieces, is decoded, walked and
+//! printed as JSON.
 #![tactic(auto)]
 
 use decode_core::{DecodeFault, Decoder, OpenFault, Progress};
@@ -12,8 +13,8 @@ use thiserror::Error;
 use value_core::{Limits, Value, What};
 use widths_core::{CheckFault, Checked};
 
-/// A registry in its portable form: type 0 is a u32, type 1 a text, and type 2 a composite `Account` of a `name` and a
-/// `nonce`.
+/// A registry in its portable form: type 0 is a u32, type 1 a text, and type 2 a composite
+/// `Account` of a `name` and a `nonce`.
 const REGISTRY: [u8; 46] = *b"\x0c\
     \x00\x00\x00\x05\x05\x00\
     \x04\x00\x00\x05\x02\x00\
@@ -42,7 +43,8 @@ enum Failure {
     Output(#[from] io::Error),
 }
 
-/// The registry that the bytes begin with, once its types are known to refer to types that are there.
+/// The registry that the bytes begin with, once its types are known to refer to types that are
+/// there.
 fn open_registry(alloc: Global, bytes: &[u8]) -> Result<Checked, Failure> {
     let (registry, _) = read_registry(alloc, bytes)?;
     Checked::new(alloc, registry).map_err(|(fault, _)| Failure::Check(fault))

@@ -22,7 +22,8 @@ fn check_empty(rt: &impl Abort, registry: &Checked, count: u32, widest: u32) {
     }
 }
 
-/// 2000 types: the one at each position is a tuple of the one type after it, and the last one the empty tuple.
+/// 2000 types: the one at each position is a tuple of the one type after it, and the last one the
+/// empty tuple.
 fn chain_of_tuples(alloc: Global) -> Result<Vec<u8>, AllocError> {
     let mut bytes = Vec::new(alloc);
     write_compact(&mut bytes, 2000)?;

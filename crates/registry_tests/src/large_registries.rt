@@ -1,4 +1,5 @@
-//! Registries that are large: where memory is granted they are read, checked and written back, and none is refused for want of it.
+//! Registries that are large: where memory is granted they are read, checked and written back, and
+//! none is refused for want of it.
 
 use crate::expect::same;
 use registry_core::{Registry, TypeId, Version, read_metadata, read_registry, write_registry};
@@ -38,7 +39,8 @@ fn check_metadata(rt: &impl Abort, alloc: Global, bytes: &[u8], types: u32) -> R
     Ok(())
 }
 
-/// The registry is read whole, also as metadata, checked, and written back: so many types, all of which take bytes.
+/// The registry is read whole, also as metadata, checked, and written back: so many types, all of
+/// which take bytes.
 fn check_registry(rt: &impl Abort, alloc: Global, bytes: &[u8], types: u32) -> Result<(), Fail> {
     let registry = read_whole(rt, alloc, bytes, types)?;
     check_last(rt, alloc, registry, types.saturating_sub(1))?;
@@ -74,7 +76,8 @@ fn many_types_are_read(rt: HostRuntime) -> Result<(), Fail> {
     check_registry(&rt, rt.alloc(), &bytes, 200_000)
 }
 
-/// A variant of so many arms, none of which has a name; each has a field of the type itself, but for the first.
+/// A variant of so many arms, none of which has a name; each has a field of the type itself, but
+/// for the first.
 fn many_arms(alloc: Global, count: u32) -> Result<Vec<u8>, AllocError> {
     let mut bytes = Vec::from_slice(alloc, b"\x04\x00\x00\x00\x01")?;
     write_compact(&mut bytes, u128::from(count))?;

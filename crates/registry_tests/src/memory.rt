@@ -1,4 +1,5 @@
-//! Memory: what lengths reserve that are claimed only, and how much room the tables of a checked registry take.
+//! Memory: what lengths reserve that are claimed only, and how much room the tables of a checked
+//! registry take.
 
 use crate::expect::same;
 use registry_core::{
@@ -68,8 +69,8 @@ const PLACES: [(&str, &[u8]); 22] = [
     ),
 ];
 
-/// The lengths 1048576, for which memory would be granted, and 1073741823 and 4294967295, the greatest of four bytes and
-/// the greatest there is.
+/// The lengths 1048576, for which memory would be granted, and 1073741823 and 4294967295, the
+/// greatest of four bytes and the greatest there is.
 const LENGTHS: [&[u8]; 3] = [
     b"\x02\x00\x40\x00",
     b"\xfe\xff\xff\xff",
@@ -104,7 +105,8 @@ fn measured(rt: &(impl Files + Alloc)) -> Result<Reserved, Fail> {
     Ok(Reserved { now, most })
 }
 
-/// From one measure to the next this many KiB were reserved and kept, and never as much as 1 MiB more.
+/// From one measure to the next this many KiB were reserved and kept, and never as much as 1 MiB
+/// more.
 fn check_growth(rt: &impl Abort, before: Reserved, after: Reserved, kib: u64) {
     let kept = after.now.saturating_sub(before.now);
     let most = after.most.saturating_sub(before.now);
@@ -172,7 +174,8 @@ fn check_place(rt: &impl Abort, alloc: Global, name: &str, front: &[u8]) -> Resu
     Ok(())
 }
 
-// A reader that asks for room at once either gets it, and is measured, or does not, and answers `OutOfMemory`.
+// A reader that asks for room at once either gets it, and is measured, or does not, and answers
+// `OutOfMemory`.
 #[test]
 fn claimed_lengths_reserve_nothing(rt: HostRuntime) -> Result<(), Fail> {
     let before = measured(&rt)?;
@@ -207,9 +210,10 @@ fn many_fields(alloc: Global) -> Result<Vec<u8>, AllocError> {
     Ok(bytes)
 }
 
-// A list grows by what was read, and no further than to what it claims to have: 3075 KiB here. To grow it may be copied, and
-// then the 2048 KiB count too that it had before. A vector that doubles, or grows to four times its length whatever is
-// claimed, has room for 65,536 fields, which are 6144 KiB.
+// A list grows by what was read, and no further than to what it claims to have: 3075 KiB here. To
+// grow it may be copied, and then the 2048 KiB count too that it had before. A vector that doubles,
+// or grows to four times its length whatever is claimed, has room for 65,536 fields, which are 6144
+// KiB.
 #[test]
 fn a_whole_list_has_no_room_to_spare(rt: HostRuntime) -> Result<(), Fail> {
     let bytes = many_fields(rt.alloc())?;

@@ -1,4 +1,5 @@
-//! What most tests do with a builder: begin it, make calls that are not refused, and take the value that they built.
+//! What most tests do with a builder: begin it, make calls that are not refused, and take the value
+//! that they built.
 
 use crate::building::{Call, add, written};
 use registry_core::TypeId;

@@ -3,15 +3,16 @@
 use std::alloc::{AllocError, Allocator};
 use std::cell::Cell;
 
-/// An allocator that counts the requests for memory and refuses one of them. All others are another allocator's to
-/// answer. A clone is a request too, and counts for itself from there on.
+/// An allocator that counts the requests for memory and refuses one of them. All others are another
+/// allocator's to answer. A clone is a request too, and counts for itself from there on.
 pub struct Rationed<B: Allocator> {
     inner: B,
     until_refusal: Cell<u64>,
 }
 
 impl<B: Allocator> Rationed<B> {
-    /// Refuses the request of this number, where the first has the number 1. With 0 none is refused.
+    /// Refuses the request of this number, where the first has the number 1. With 0 none is
+    /// refused.
     pub fn new(inner: B, refused: u64) -> Rationed<B> {
         Rationed {
             inner,

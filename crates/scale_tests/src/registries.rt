@@ -96,13 +96,13 @@ pub const CHAIN: &[u8] =
 pub const SHADOWED_ARM: &[u8] =
     b"\x08\x00\x00\x00\x05\x03\x00\x04\x00\x00\x01\x08\x04A\x00\x03\x00\x04B\x04\x00\x00\x00\x00\x03\x00\x00";
 
-/// The type 5 is a tuple of a str, a sequence of sequences of u8, a variant of End, and Next with another such, and a
-/// str.
+/// The type 5 is a tuple of a str, a sequence of sequences of u8, a variant of End, and Next with
+/// another such, and a str.
 pub const NESTED: &[u8] =
     b"\x18\x00\x00\x00\x05\x03\x00\x04\x00\x00\x05\x02\x00\x08\x00\x00\x02\x00\x00\x0c\x00\x00\x02\x08\x00\x10\x00\x00\x01\x08\x0cEnd\x00\x00\x00\x10Next\x04\x00\x10\x00\x00\x01\x00\x00\x14\x00\x00\x04\x10\x04\x0c\x10\x04\x00";
 
-/// The empty tuple, and 40 tuples, each of the tuple before it twice: the last takes no bytes, and a value of it would
-/// have 2^40 parts if it was taken apart.
+/// The empty tuple, and 40 tuples, each of the tuple before it twice: the last takes no bytes, and
+/// a value of it would have 2^40 parts if it was taken apart.
 pub fn nested_pairs(alloc: Global) -> Result<Vec<u8>, AllocError> {
     let mut bytes = Vec::from_slice(alloc, b"\xa4\x00\x00\x00\x04\x00\x00")?;
     'types: for before in 0..40u8 {

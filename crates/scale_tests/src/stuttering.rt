@@ -3,7 +3,8 @@
 use std::io;
 use std::io::Write;
 
-/// A writer that takes one byte a call; the second call is interrupted, and the fourth takes nothing.
+/// A writer that takes one byte a call; the second call is interrupted, and the fourth takes
+/// nothing.
 #[derive(Drop)]
 pub struct StutteringWriter {
     pub calls: u8,

@@ -57,8 +57,8 @@ fn check_spelling(alloc: Global, value: u128, bytes: &[u8]) -> Result<(), Wrong>
     check_written(alloc, value, bytes)
 }
 
-/// Checks one row: the compact is read so, and an accepted one is put and written as the bytes that were taken. Returns
-/// in how many ways it was asked.
+/// Checks one row: the compact is read so, and an accepted one is put and written as the bytes that
+/// were taken. Returns in how many ways it was asked.
 pub fn check_row(alloc: Global, columns: &[&str]) -> Result<u64, Wrong> {
     let [_, target, bytes, answer] = columns else {
         return Err(Wrong::Column("one of four"));

@@ -1,4 +1,5 @@
-//! Registries and metadata: each read, checked, listed and written back, and each shorter front of it.
+//! Registries and metadata: each read, checked, listed and written back, and each shorter front of
+//! it.
 
 use crate::columns::{bytes_of, is_nothing};
 use crate::way::Way;

@@ -40,7 +40,8 @@ fn check_ran(alloc: Global, way: Way, wanted: &Ran, found: &Ran) -> Result<(), W
     check_bytes(alloc, way, &wanted.err, &found.err)
 }
 
-/// Runs a value's row by the command, where it has the command's limit of bytes. Returns in how many ways.
+/// Runs a value's row by the command, where it has the command's limit of bytes. Returns in how
+/// many ways.
 pub(crate) fn check_command(alloc: Global, registry: &[u8], row: &Row<'_>) -> Result<u64, Wrong> {
     if row.limits.bytes != MOST_BYTES {
         return Ok(0);
@@ -69,7 +70,8 @@ struct FilesOfRow {
 }
 
 impl FilesOfRow {
-    /// Opens a file by its name: `r` holds the registry and `v` the value, `.` opens and cannot be read, and no other opens.
+    /// Opens a file by its name: `r` holds the registry and `v` the value, `.` opens and cannot be
+    /// read, and no other opens.
     fn open(&self, name: &str, step: usize) -> Option<PacedReader<'_>> {
         match name {
             "r" => Some(PacedReader::new(&self.registry, step, Then::GoesOn)),
@@ -105,7 +107,8 @@ fn explained_ran(alloc: Global, fault: JobFault) -> (Ran, bool) {
     (ran, false)
 }
 
-/// Runs the words as the program does, over devices of at most so many bytes a call. Returns whether a device failed, too.
+/// Runs the words as the program does, over devices of at most so many bytes a call. Returns
+/// whether a device failed, too.
 fn ran_words(alloc: Global, files: &FilesOfRow, words: &[&str], step: usize) -> (Ran, bool) {
     let (job, file, value_file) = match job(alloc, words) {
         Ok(job) => job,
@@ -149,7 +152,8 @@ fn unescaped(alloc: Global, column: &str) -> Result<String, AllocError> {
     Ok(text)
 }
 
-/// The run answered as the row says. Where the parser of the words refuses them, its text is left open.
+/// The run answered as the row says. Where the parser of the words refuses them, its text is left
+/// open.
 fn check_columns(
     alloc: Global,
     way: Way,

@@ -25,7 +25,8 @@ pub(crate) fn check_value(
     check_text(alloc, way, row.json, &shown(alloc, value)?)
 }
 
-/// The text is put to the front of a slice with room for it and two bytes more, and nothing is put where it has no room.
+/// The text is put to the front of a slice with room for it and two bytes more, and nothing is put
+/// where it has no room.
 fn check_slice(alloc: Global, row: &Row<'_>, value: &Value<'_, Global>) -> Result<(), Wrong> {
     let len = row.json.len();
     let mut wanted = Vec::from_slice(alloc, row.json.as_bytes())?;
@@ -49,7 +50,8 @@ fn check_slice(alloc: Global, row: &Row<'_>, value: &Value<'_, Global>) -> Resul
     check_bytes(alloc, Way::Slice, &untouched, &short)
 }
 
-/// The row's value as a tree, as text in a slice, and printed. Returns in how many ways it is shown.
+/// The row's value as a tree, as text in a slice, and printed. Returns in how many ways it is
+/// shown.
 pub(crate) fn check_forms(alloc: Global, checked: &Checked, row: &Row<'_>) -> Result<u64, Wrong> {
     let Some(spelling) = row.value() else {
         return Ok(0);

@@ -1,4 +1,5 @@
-//! Values: each fed to a decoder whole and in pieces, read from readers, and shown by every call that shows one.
+//! Values: each fed to a decoder whole and in pieces, read from readers, and shown by every call
+//! that shows one.
 
 use crate::calls::open;
 use crate::commands::check_command;
@@ -186,7 +187,8 @@ fn check_pieces(
     check_finished(alloc, way, row, finish(decoder))
 }
 
-/// Feeds the bytes one by one, each between two pieces of no bytes: the one after it changes nothing.
+/// Feeds the bytes one by one, each between two pieces of no bytes: the one after it changes
+/// nothing.
 fn check_singly(alloc: Global, checked: &Checked, row: &Row<'_>) -> Result<(), Wrong> {
     let mut decoder = open(alloc, checked, row.ty, row.limits)?;
     let mut fed = feed_next(&mut decoder, Fed::More(0), b"");
@@ -226,8 +228,8 @@ fn check_three_pieces(alloc: Global, checked: &Checked, row: &Row<'_>) -> Result
     Ok(count)
 }
 
-/// Every front that is shorter than what is taken goes on, and is refused as truncated where no more bytes come. Returns how
-/// many there are.
+/// Every front that is shorter than what is taken goes on, and is refused as truncated where no
+/// more bytes come. Returns how many there are.
 fn check_fronts(alloc: Global, checked: &Checked, row: &Row<'_>) -> Result<u64, Wrong> {
     let taken = row.held.taken as usize;
     'fronts: for len in 0..taken {
@@ -289,7 +291,8 @@ fn check_front_of(alloc: Global, checked: &Checked, row: &Row<'_>) -> Result<(),
     }
 }
 
-/// One byte after the value's is left by a decoder, and refused where the bytes are to be the value alone.
+/// One byte after the value's is left by a decoder, and refused where the bytes are to be the value
+/// alone.
 fn check_further_byte(alloc: Global, checked: &Checked, row: &Row<'_>) -> Result<u64, Wrong> {
     let way = Way::FurtherByte;
     let Some(value) = row.value() else {
