@@ -25,7 +25,7 @@ Examples:
 \x20 scaleview decode metadata.scale 3 value.hex --metadata --hex --depth 16
 ";
 
-/// The help of the program, in front of the notes.
+/// The help of the program, before the notes.
 const PROGRAM: &str = "\
 Shows SCALE values by a registry of their types
 
@@ -41,7 +41,7 @@ Options:
 
 ";
 
-/// The help of `types`, in front of the notes.
+/// The help of `types`, before the notes.
 const TYPES: &str = "\
 Shows the types of a registry, a line each: position, class, kind and path
 
@@ -56,7 +56,7 @@ Options:
 
 ";
 
-/// The help of `decode`, in front of the notes.
+/// The help of `decode`, before the notes.
 const DECODE: &str = "\
 Shows a value as JSON
 
@@ -101,7 +101,7 @@ fn the_whole_help_is_written(rt: HostRuntime) -> Result<(), Fail> {
     Ok(())
 }
 
-// Every option, and two dashes in front of a name that is no option.
+// Every option, and two dashes before a name that is no option.
 #[test]
 fn ten_words_name_a_value(rt: HostRuntime) -> Result<(), Fail> {
     let words = [

@@ -33,9 +33,8 @@ use Rattle.decode_core.specs.declared.decoder.Progress.TheVariants as progress
 use Rattle.decode_core.specs.declared.fault.DecodeFault.{DecodeFault}
 use Rattle.machine_core.specs.declared.reason.DecodeReason.TheVariants as reason
 
--- what is decoded, how many bytes were taken, the value on its way, or the fault that ended it, how
--- many turns were taken, and
--- how many calls fed it
+-- what is decoded, how many bytes were taken, the value in progress, or the fault that ended it,
+-- how many turns were taken, and how many calls fed it
 pub record Decoding : Type 0 where
   pub job : Job
   pub taken : ℕ
@@ -97,7 +96,7 @@ pub record IsDone (j : Job) (b : List ℕ) (s : Running) (n : ℕ) : Type 0 wher
   pub fits : n ≤ j.bytes
 
 -- memory was wanted: the first n of these bytes, within the limit, are those of the nodes of a
--- value on its way and those that
+-- value in progress and those that
 -- it holds; and what comes next is refused by nothing, but a node that bytes spell was to be added,
 -- or bytes of a text or a run of bytes were to be kept
 pub record RanOut (j : Job) (b : List ℕ) (n : ℕ) : Type 0 where
@@ -178,7 +177,7 @@ pub record IsDecoding (d : Decoding) : Type 0 where
   pub led : Led d bytes
   pub counted : IsCounted d
 
--- some bytes have led to a value on its way or whole
+-- some bytes have led to a value in progress or whole
 pub record IsLedTo (s : Running) (limit taken : ℕ) : Type 0 where
   pub small : limit ≤ 2 ^ 40
   pub job : Job
@@ -205,18 +204,18 @@ FedTakes taken n (fed.More m) = (taken ≤ m) × (m ≤ taken + n)
 FedTakes taken n (fed.Done used) = used ≤ n
 FedTakes taken n (fed.Ended f m) = (taken ≤ m) × (m ≤ taken + n)
 
--- turns on a piece led from this value on its way to where memory was wanted, with n bytes taken in
--- all
+-- turns on a piece led from this value in progress to where memory was wanted, with n bytes taken
+-- in all
 abbrev pub AsksAt : Running → List ℕ → ℕ → ℕ → Type 0
 AsksAt s piece taken n = (k : ℕ) × (n ≡ taken + k) × RunsOut s piece k
 
--- where want of memory ended a value, the turns on the piece led to it
+-- where an allocation failure ended a value, the turns on the piece led to it
 abbrev pub FedAsks : Running → List ℕ → ℕ → Fed → Type 0
 FedAsks s piece taken (fed.Ended f n) = f.reason ≡ reason.OutOfMemory → AsksAt s piece taken n
 FedAsks s piece taken _ = Unit {0}
 
--- where want of memory is reported with n bytes taken, it had been reported before; or turns on the
--- part of the piece that is within the limit led to it from the value as it stood
+-- where an allocation failure is reported with n bytes taken, it had been reported before; or turns
+-- on the part of the piece that is within the limit led to it from the value as it stood
 abbrev pub AsksMemory : Decoding → List ℕ → ℕ → DecodeFault → Type 0
 AsksMemory d piece n f = f.reason ≡ reason.OutOfMemory → (d.run ≡ Err f)
     ⊎ ((s : Running) × (d.run ≡ Ok s) × AsksAt s (take (d.job.bytes - d.taken) piece) d.taken n)

@@ -22,7 +22,7 @@ use Rattle.decode_core.specs.declared.pieces.PiecesFault.TheVariants as pieces
 abbrev pub job_of : List TypeInfo → ℕ → Limits → Job
 job_of types root limits = (first_of_all types root limits).job
 
--- the fault that forbids a decoder; or there is none, and memory was refused
+-- the fault that forbids a decoder; or there is none, and an allocation failed
 abbrev pub Forbids : Option OpenFault → OpenFault → Type 0
 Forbids forbidden e = (forbidden ≡ Some e) ⊎ ((e ≡ opening.OutOfMemory) × (forbidden ≡ None))
 

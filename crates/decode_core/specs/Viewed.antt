@@ -13,7 +13,7 @@ job_within d = record {
   bytes = d.limits.bytes;
 }
 
--- the job, how many bytes were taken, the value on its way or the fault, and how many turns and
+-- the job, how many bytes were taken, the value in progress or the fault, and how many turns and
 -- calls there were
 abbrev pub decoding_of : {A : Type 0} → Inside A → Decoding
 decoding_of d = record {

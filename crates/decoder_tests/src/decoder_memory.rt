@@ -1,4 +1,5 @@
-//! Decoders whose memory is refused: where one is made, where it is fed, and where it is finished.
+//! Decoders with failing allocations: where one is made, where it is fed, and where it is
+//! finished.
 
 use crate::expect::same;
 use decode_core::{DecodeFault, DecodeReason, Decoder, OpenFault, Progress};
@@ -53,8 +54,8 @@ fn wanted_progress(place: usize) -> Progress {
     }
 }
 
-/// Feeds the nested value byte by byte: the place of the byte at which memory is refused, where it
-/// is.
+/// Feeds the nested value byte by byte: the place of the byte at which an allocation fails, where
+/// it is.
 fn place_of_refusal<A: Allocator>(rt: &impl Abort, decoder: &mut Decoder<'_, A>) -> Option<u64> {
     'bytes: for (place, byte) in NESTED_BYTES.iter().enumerate() {
         let reported = feed(decoder, &[*byte]);

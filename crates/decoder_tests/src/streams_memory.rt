@@ -1,4 +1,4 @@
-//! Values from readers and from pieces where memory is refused.
+//! Values from readers and from pieces where an allocation fails.
 
 use crate::decoder_memory::{NESTED_BYTES, REFUSED};
 use crate::expect::same;

@@ -14,7 +14,7 @@ use std::alloc::Global;
 use value_core::{Limits, Value as Sampled};
 use widths_core::{CheckFault, Checked};
 
-/// The line where neither the right answer nor want of memory came of a call.
+/// The line where neither the right answer nor an allocation failure came of a call.
 const OTHER: &str = "direct_calls: neither the right answer nor want of memory\n";
 
 /// How many bytes `print` and `json_to_slice` have room for, more than the text has.

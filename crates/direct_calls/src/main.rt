@@ -22,8 +22,8 @@ const USAGE: &str =
 /// Why no call was made.
 #[derive(Clone, Copy)]
 enum NoCall {
-    /// The words or the input of the call are not there, for want of memory or since a word is not
-    /// UTF-8.
+    /// The words or the input of the call are not there, because an allocation failed or a word
+    /// is not UTF-8.
     NotReady,
     /// The words name no call.
     Usage,

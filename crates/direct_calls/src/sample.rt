@@ -60,18 +60,18 @@ pub(crate) fn registry_bytes() -> &'static [u8] {
     &METADATA[PREFIX..]
 }
 
-/// The registry, unless memory is refused.
+/// The registry, unless an allocation fails.
 pub(crate) fn registry(alloc: Global) -> Option<Registry> {
     let (registry, _) = read_registry(alloc, registry_bytes()).ok()?;
     Some(registry)
 }
 
-/// The registry, checked, unless memory is refused.
+/// The registry, checked, unless an allocation fails.
 pub(crate) fn checked(alloc: Global) -> Option<Checked> {
     Checked::new(alloc, registry(alloc)?).ok()
 }
 
-/// The value, unless memory is refused.
+/// The value, unless an allocation fails.
 pub(crate) fn value(alloc: Global, checked: &Checked) -> Option<Value<'_, Global>> {
     let (value, _) = decode_pieces(alloc, checked, TYPE, Limits::default_limits(), &[VALUE]).ok()?;
     Some(value)

@@ -104,7 +104,7 @@ record Live (p : Arm → Bool) (arms : List Arm) (seen : List ℕ) (j : ℕ) : T
       IsAmong u (flat_map (λ a. field_types a.fields) arms)
   pub byte : arm.index < 256
 
--- a live arm is live also where an arm of another index stands in front of the list
+-- a live arm is live also where an arm of another index stands before the list
 live_after_another : (p : Arm → Bool) (x : Arm) (arms : List Arm) (seen : List ℕ) (j : ℕ)
     (l : Live p arms seen (j + 1)) → (x.index == l.arm.index) ≡ false → Live p (x ∷ arms) seen j
 live_after_another p x arms seen j l e = record {
@@ -221,7 +221,7 @@ unfolding zeros
 zero_taken layout.bool = refl
 zero_taken _ = refl
 
--- the length 0, or that of an array, stands in front of as many bytes 0, which are a run
+-- the length 0, or that of an array, stands before as many bytes 0, which are a run
 least_run : (k : RunKind) → (s b : List ℕ) × AreBytes b × SpellsRun k s b
 least_run kind.Text = (
   [],

@@ -30,7 +30,7 @@ length_takes kind.Text b = compact_takes target.U32 b
 length_takes kind.Bytes b = compact_takes target.U32 b
 length_takes (kind.ByteArray n) b = ([], refl, (refl, refl))
 
--- the length in front of a run has one spelling
+-- the length before a run has one spelling
 pub length_is : (k : RunKind) (n : ℕ) (c : List ℕ) → IsRunLength k n c → c ≡ run_front k n
 length_is kind.Text n c h = h.1
 length_is kind.Bytes n c h = h.1

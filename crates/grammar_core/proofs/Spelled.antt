@@ -203,7 +203,7 @@ index_at arms i q a e =
     let s = (arm_is_first arms i q a).0 e in
     rw (arm_get arms i q a e) (ap (λ (x : ℕ). x ∷ []) s.4)
 
--- ---- what stands in front of children
+-- ---- what stands before children
 
 -- where a type is laid out by arms, its definition reports the index of the arm that is found
 pub arm_byte : (r : List TypeInfo) (t : ℕ) (arms : List Arm) (i q : ℕ) (a : Arm) →
@@ -213,17 +213,17 @@ arm_byte r t arms i q a e h =
     ap (λ (d : Option TypeDef). index_byte (index_of d q)) (shaped_at r t (layout.arms arms) e)
     ∙ index_at arms i q a h
 
--- the elements of what is laid out as an array have no length in front of them
+-- the elements of what is laid out as an array have no length before them
 pub array_length : (r : List TypeInfo) (t n u k : ℕ) → layout r t ≡ layout.array n u →
     length_bytes (shape r t) k ≡ []
 array_length r t n u k e = rw (shaped_at r t (layout.array n u) e) refl
 
--- the elements of what is laid out as a sequence have their compact length in front of them
+-- the elements of what is laid out as a sequence have their compact length before them
 pub sequence_length : (r : List TypeInfo) (t u k : ℕ) → layout r t ≡ layout.sequence u →
     length_bytes (shape r t) k ≡ compact k
 sequence_length r t u k e = rw (shaped_at r t (layout.sequence u) e) refl
 
--- the bytes of a run by itself are its own after those that may stand in front of so many
+-- the bytes of a run by itself are its own after those that may stand before so many
 run_spelling : (r : List TypeInfo) (t : ℕ) (k : RunKind) (s c : List ℕ) →
     layout r t ≡ layout.plain (layout.run k) → IsRunLength k (length s) c →
     leaf_spelling (shape r t) (run_leaf k s) ≡ c ++ s

@@ -37,7 +37,7 @@ run_of_form _ = None
 
 -- ---- how it is spelled
 
--- c stands in front of n bytes: their length, and nothing where the type says it
+-- c stands before n bytes: their length, and nothing where the type says it
 abbrev pub IsRunLength : RunKind → ℕ → List ℕ → Type 0
 IsRunLength (kind.ByteArray k) n c = (n ≡ k) × (c ≡ [])
 IsRunLength _ n c = IsCompact target.U32 n c
@@ -51,7 +51,7 @@ IsRun _ s = Unit {0}
 abbrev pub SpellsRun : RunKind → List ℕ → List ℕ → Type 0
 SpellsRun k s b = (c : List ℕ) × IsRunLength k (length s) c × IsRun k s × (b ≡ c ++ s)
 
--- the length in front of n bytes
+-- the length before n bytes
 abbrev pub run_front : RunKind → ℕ → List ℕ
 run_front (kind.ByteArray k) n = []
 run_front _ n = compact n

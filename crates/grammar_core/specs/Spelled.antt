@@ -70,7 +70,7 @@ leaf_spelling d (tree.wide s) = s
 leaf_spelling d (tree.compact n) = compact n
 leaf_spelling d (tree.count n) = compact n
 
--- the bytes in front of n parts, by the definition of their node's type
+-- the bytes before n parts, by the definition of their node's type
 abbrev pub branch_bytes : Option TypeDef → Branch → ℕ → List ℕ
 branch_bytes d tree.fields n = []
 branch_bytes d (tree.arm q) n = index_byte (index_of d q)

@@ -63,7 +63,7 @@ stops_beyond xs ys zs tos ks a b c u e h k = record {
   on = rw (append_assoc xs k.front (u ∷ [])) (on_more a b c xs (k.front ++ u ∷ []) h.on k.on);
 }
 
--- the same where memory was refused
+-- the same where an allocation failed
 stops_later : (xs ks : List ℕ) (a b c : Graph) → ReadsReferences a b xs ks → StopsBetween b c →
     StopsBetween a c
 stops_later xs ks a b c h k = record {

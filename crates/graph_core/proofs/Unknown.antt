@@ -8,7 +8,7 @@ use Rattle.registry_core.specs.declared.definition.Arm.{Arm}
 use Rattle.graph_core.specs.Types.{field_types}
 use Rattle.graph_core.specs.References.{first_unknown}
 
--- where the first references all are positions, the first unknown one is behind them
+-- where the first references all are positions, the first unknown one is after them
 pub first_unknown-append_none : (n : ℕ) (xs ys : List ℕ) → first_unknown n xs ≡ None →
     first_unknown n (xs ++ ys) ≡ first_unknown n ys
 first_unknown-append_none n [] ys e = refl

@@ -32,8 +32,8 @@ pub record StopsBetween (a b : Graph) : Type 0 where
   pub known : AreKnown (length a.registry) front
   pub on : ReadsOn a b front
 
--- where linking did not stop for want of memory, it stopped at the first of these references that
--- is no position
+-- where linking did not stop at an allocation failure, it stopped at the first of these references
+-- that is no position
 abbrev pub StopsLinking : List ℕ → Graph → Graph → LinkStop → Type 0
 StopsLinking tos a b stop.Memory = StopsBetween a b
 StopsLinking tos a b (stop.Unknown u) = StopsAt tos a b u
@@ -43,7 +43,7 @@ abbrev pub fault_in : ℕ → LinkStop → CheckFault
 fault_in i stop.Memory = OutOfMemory
 fault_in i (stop.Unknown u) = UnknownType (record { 0 = i }) (record { 0 = u })
 
--- the fault is the unknown reference, or want of memory where there is none
+-- the fault is the unknown reference, or an allocation failure where there is none
 abbrev pub IsFaultOf : CheckFault → Option (ℕ × ℕ) → Type 0
 IsFaultOf (UnknownType from to) unknown = unknown ≡ Some (from.0, to.0)
 IsFaultOf OutOfMemory unknown = unknown ≡ None
@@ -77,8 +77,8 @@ pub record IsUnderWay (r : List TypeInfo) (g : Graph) : Type 0 where
   pub reading : IsReading r g
   pub known : AreKnown (length r) (refs g)
 
--- an unknown reference is the first one, found with few looks; where memory was refused, the types
--- can be read on
+-- an unknown reference is the first one, found with few looks; where an allocation failed, the
+-- types can be read on
 abbrev pub IsRefusedFor : List TypeInfo → Graph → CheckFault → Type 0
 IsRefusedFor r g (UnknownType from to) = (first_fault r ≡ Some (from.0, to.0))
     × HasFewLooksUntil r g.looks × (g.registry ≡ r)

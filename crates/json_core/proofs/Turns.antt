@@ -136,7 +136,7 @@ object_whole old begun last new all left d begins reported none ends is =
     ∙ ap (λ w. prints w ms) begins ∙ prints_again old (begin_object ∷ []) ms
     ∙ ap (λ x. prints old (json_tokens (outline x))) (sym is)
 
--- nothing is left behind the last field or the last child
+-- nothing is left after the last field or the last child
 pub no_field_left : (fs : List Field) (ds : List Data) → length fs ≡ 0 →
     members_in_order fs ds ≡ no_members
 no_field_left [] ds e = refl

@@ -40,7 +40,7 @@ IsRefused b own reported at = (e : Refusal) × (left : List ℕ)
 abbrev pub IsSpelled : Built → List ℕ → Type 0
 IsSpelled b own = (x : Head × Option Part) × (own_at (next_layout b) own ≡ Ok (x, []))
 
--- what the next node's bytes make of a value; memory is refused only for a node that they spell
+-- what the next node's bytes make of a value; an allocation fails only for a node that they spell
 abbrev pub AddsNode : Built → Built → List ℕ → Result (Unit {0}) NodeFault → Type 0
 AddsNode old new own (Ok _) = IsAdded old new own
 AddsNode old new own (Err (fault.Refused reported at)) = IsRefused old own reported at × (new ≡ old)

@@ -1,4 +1,4 @@
--- What contracts see of a decoder on its way, and the state of the machine that it is in.
+-- What contracts see of a decoder in progress, and the state of the machine that it is in.
 use Rattle.std.specs.Prelude.{◌≡◌, ℕ, ◌+◌, ◌-◌, ◌<◌, ◌≤◌, List, [], ◌∷◌, ◌++◌, length, map, Option}
 use Rattle.std.specs.Prelude.{Some, None, Ok}
 use Rattle.widths_core.specs.declared.run_kind.RunKind.{RunKind}

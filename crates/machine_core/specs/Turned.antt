@@ -161,7 +161,7 @@ HasParts bytes.Arm = Unit {0}
 HasParts bytes.Sequence = Unit {0}
 HasParts _ = ⊥
 
--- what holds of every value on its way: a begun tree is built, no more nodes are open than the
+-- what holds of every value in progress: a begun tree is built, no more nodes are open than the
 -- depth limit lets in, and what
 -- is held beside are bytes of the next node
 pub record IsSound (s : Running) : Type 0 where
@@ -176,8 +176,8 @@ FeedReports old new piece n s = (n ≤ length piece)
     × ((last : Running) × Moves old last (take n piece) × EndsTurns last (drop n piece) s
     × StandsAfter s last new × IsSound last)
 
--- what turns on a piece do that end for want of memory, where n bytes of it were taken: these lead
--- to a value on its way, which wants memory by the bytes after them
+-- what turns on a piece do that end at an allocation failure, where n bytes of it were taken: these
+-- lead to a value in progress, which wants memory by the bytes after them
 abbrev pub RunsOut : Running → List ℕ → ℕ → Type 0
 RunsOut old piece n = (n ≤ length piece)
     × ((last : Running) × Moves old last (take n piece) × WantsMemory last (drop n piece)

@@ -25,7 +25,7 @@ halves n =
     let h7 : byte_at 7 (n / 2 ^ 64) ≡ byte_at 15 n = omega arith in
     rw (l0, l1, l2, l3, l4, l5, l6, l7, h0, h1, h2, h3, h4, h5, h6, h7) refl
 
--- one half put behind the other behind what was there
+-- one half put after the other after what was there
 pub put_halves : (n m k : ℕ) (old start low high one two : List ℕ) → start ≡ old →
     low ≡ to_le_bytes w64 m → high ≡ to_le_bytes w64 k → m ≡ n % 2 ^ 64 → k ≡ n / 2 ^ 64 →
     one ≡ start ++ low → two ≡ one ++ high → two ≡ old ++ to_le_bytes w128 n

@@ -52,7 +52,7 @@ word-of (negsuc m) = refl
 
 -- ---- each kind of node
 
--- what stands in front of a node's bytes in the pool stays so where the content is an equal one
+-- what stands before a node's bytes in the pool stays so where the content is an equal one
 pub starts_as : (f : List ℕ) (d : Option TypeDef) (pool : List ℕ) (k : ℕ) (c e : Content) →
     c ≡ e → Starts f d pool k e → Starts f d pool k c
 starts_as f d pool k c e is h = subst (Starts f d pool k) (sym is) h
@@ -114,14 +114,14 @@ length-range pool start len h =
       length-drop {A = ℕ} start pool,
     )
 
--- in front of a text's bytes in the pool stands their compact length
+-- before a text's bytes in the pool stands their compact length
 pub starts_text : (f : List ℕ) (d : Option TypeDef) (pool : List ℕ) (k len start : ℕ) →
     start + len ≤ length pool → f ≡ compact len → Starts f d pool k (is.Text len start)
 starts_text f d pool k len start h e =
     ap (λ (x : List ℕ). x ++ slice_range pool start (start + len))
     (e ∙ ap compact (sym (length-range pool start len h)))
 
--- in front of a run's bytes in the pool stands their length, or nothing for an array
+-- before a run's bytes in the pool stands their length, or nothing for an array
 pub starts_bytes : (f : List ℕ) (d : Option TypeDef) (pool : List ℕ) (k len start : ℕ) →
     start + len ≤ length pool → f ≡ length_bytes d len → Starts f d pool k (is.Bytes len start)
 starts_bytes f d pool k len start h e =

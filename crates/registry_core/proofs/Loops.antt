@@ -21,7 +21,7 @@ abbrev pub with_front : {X : Type 0} → List X → Read RegistryReason (List X)
     Read RegistryReason (List X)
 with_front front read = read >>= λ x. Ok (front ++ x.0, x.1)
 
--- an element that is read goes to those before it, or in front of those after it
+-- an element that is read goes to those before it, or before those after it
 regroup : {X : Type 0} (front : List X) (x : X) (read : Read RegistryReason (List X)) →
     with_front front (read >>= λ others. Ok (x ∷ others.0, others.1)) ≡ with_front (front ++ x ∷ [])
     read

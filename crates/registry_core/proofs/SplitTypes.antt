@@ -315,7 +315,7 @@ letters_says (letter ∷ letters) (x ∷ c) why left =
             let name : letter ≡ f = cc in
             let byte : x ≡ f = cc in absurd (differ is (byte ∙ sym name))
 
--- metadata behind its version
+-- metadata after its version
 abbrev with_version : Version × List ℕ → Read RegistryReason (List TypeInfo × Version)
 with_version version = registry_at version.1 >>= λ types. Ok ((types.0, version.0), types.1)
 

@@ -29,7 +29,7 @@ use Rattle.registry_core.proofs.Inside.{text_inside}
 
 -- ---- parts
 
--- a fault of a registry is no want of memory, and a cut leaves nothing
+-- a fault of a registry is no allocation failure, and a cut leaves nothing
 abbrev pub IsReported : RegistryReason → List ℕ → Type 0
 IsReported reason left = (reason ≢ registry.OutOfMemory) × (reason ≡ registry.Truncated → left ≡ [])
 
@@ -46,7 +46,7 @@ cut scale.CompactTooLarge e = absurd cc
 cut scale.BadBool e = absurd cc
 cut scale.BadChar e = absurd cc
 
--- no fault of an integer or a text is reported as want of memory
+-- no fault of an integer or a text is reported as an allocation failure
 no_memory : (reason : Reason) → registry_reason_of reason ≢ registry.OutOfMemory
 no_memory scale.Truncated e = absurd cc
 no_memory scale.BadUtf8 e = absurd cc
@@ -270,7 +270,7 @@ arms_steady = let s = sequence_steady arm_read_at arm_steady in
 
 -- ---- definitions
 
--- a byte that names nothing is a fault within the bytes, neither a cut nor want of memory
+-- a byte that names nothing is a fault within the bytes, neither a cut nor an allocation failure
 pub named_inside : {X : Type 0} (reason : RegistryReason) (b : List ℕ) (o : Option X)
     (rest : List ℕ) →
     reason ≢ registry.OutOfMemory → reason ≢ registry.Truncated → IsAfter b rest →

@@ -119,13 +119,13 @@ err_exact Fits spell part codec b Memory h = inl refl
 err_exact Fits spell part codec b (Fault reason left) h = let i = codec.steady.inside b in
     inr (left.now, h, refl, (rw h at i).1.0)
 
--- a reading that is done stops for want of memory only
+-- a reading that is done stops at an allocation failure only
 stopped : {X : Type 0} (stop : ReadStop) (b : List ℕ) (x : X × List ℕ) →
     StopsReading stop (done {E = RegistryReason} x) → fault_of (length b) stop ≡ out_of_memory
 stopped Memory b x h = refl
 stopped (Fault reason left) b x h = absurd cc
 
--- where bytes begin with a spelling, a codec's reading stops for want of memory only
+-- where bytes begin with a spelling, a codec's reading stops at an allocation failure only
 pub err_only : {X : Type 0} (Fits : X → Type 0) (spell : X → List ℕ) (part : Reader X) →
     IsCodec Fits spell part → (b : List ℕ) (stop : ReadStop) → StopsReading stop (part b) →
     (other : X) (more : List ℕ) → Fits other → b ≡ spell other ++ more →

@@ -7,11 +7,11 @@ use Rattle.registry_core.specs.declared.fault.RegistryReason.TheVariants.{OutOfM
 use Rattle.registry_core.specs.declared.type_info.TypeInfo.{TypeInfo}
 use Rattle.registry_core.specs.declared.version.Version.{Version}
 
--- the answer where memory was refused
+-- the answer where an allocation failed
 abbrev pub out_of_memory : RegistryFault
 out_of_memory = record { reason = OutOfMemory; at = 0 }
 
--- the fault is the first one that reading meets, at its place, unless memory was refused
+-- the fault is the first one that reading meets, at its place, unless an allocation failed
 abbrev pub FaultAnswers : {X : Type 0} → List ℕ → RegistryFault → Read RegistryReason X → Type 0
 FaultAnswers input f read = (f ≡ out_of_memory)
     ⊎ ((left : List ℕ) × (read ≡ Err (f.reason, left)) × (f.at ≡ place input left)
@@ -29,7 +29,7 @@ abbrev pub MetadataAnswers : List ℕ → Result (List TypeInfo × ℕ × Versio
 MetadataAnswers input (Ok x) read = (x.1 ≤ length input) × (read ≡ Ok ((x.0, x.2), drop x.1 input))
 MetadataAnswers input (Err f) read = FaultAnswers input f read
 
--- this answer, unless memory was refused
+-- this answer, unless an allocation failed
 abbrev pub IsUnlessMemory : {X : Type 0} → X → Result X RegistryFault → Type 0
 IsUnlessMemory x (Ok y) = y ≡ x
 IsUnlessMemory x (Err f) = f ≡ out_of_memory

@@ -1,4 +1,4 @@
--- What a reader of a part returned beside what reading gives, unless memory was refused.
+-- What a reader of a part returned beside what reading gives, unless an allocation failed.
 use Rattle.std.specs.Prelude.{◌≡◌, ◌≤◌, ◌-◌, List, ℕ, length, Result, Ok, Err}
 use Rattle.scale_core.specs.Read.{Read}
 use Rattle.registry_core.specs.declared.fault.RegistryFault.{RegistryFault}

@@ -9,7 +9,7 @@ use Rattle.registry_core.specs.Spelling.{metadata}
 use Rattle.registry_core.specs.Reading.{Reader}
 use Rattle.registry_core.specs.Fits.{FitsRegistry}
 
--- metadata as far as it is read: a registry, and a version in front of it
+-- metadata as far as it is read: a registry, and a version before it
 abbrev pub FitsMetadata : List TypeInfo × Version → Type 0
 FitsMetadata m = FitsRegistry m.0
 
@@ -30,7 +30,7 @@ ReadIsSpelled {X = X} Fits spell part = (b : List ℕ) (x : X) (rest : List ℕ)
 abbrev pub IsAfter : List ℕ → List ℕ → Type 0
 IsAfter b left = (front : List ℕ) × (b ≡ front ++ left)
 
--- a fault stands within the input, a cut at its end, and none is want of memory
+-- a fault stands within the input, a cut at its end, and none is an allocation failure
 abbrev pub FaultIsWithin : {X : Type 0} → Reader X → Type 0
 FaultIsWithin part = (b : List ℕ) (reason : RegistryReason) (left : List ℕ) →
     part b ≡ Err (reason, left) → IsAfter b left × (reason ≢ OutOfMemory)

@@ -1,5 +1,5 @@
 -- Where a registry is refused, told by splits of its bytes: parts that are spelled stand in front,
--- and the part behind them is refused.
+-- and the part after them is refused.
 use Rattle.std.specs.Prelude.{◌≡◌, ◌≢◌, ◌⊎◌, ℕ, ◌+◌, ◌<◌, ◌^◌, List, [], ◌∷◌, ◌++◌, length, drop}
 use Rattle.std.specs.Prelude.{Err, None, false, flat_map}
 use Rattle.std.specs.List.{AllByRecursion}
@@ -28,7 +28,7 @@ Refusals = List ℕ → RegistryReason → List ℕ → Type 0
 abbrev pub Fails : {X : Type 0} → Reader X → Refusals
 Fails part b why left = part b ≡ Err (why, left)
 
--- the first part is refused, or it stands in front, and what comes behind it is refused
+-- the first part is refused, or it stands in front, and what comes after it is refused
 abbrev pub Then : {X : Type 0} → (X → Type 0) → (X → List ℕ) → Reader X → (X → Refusals) → Refusals
 Then {X = X} Fits spell part Behind b why left = Fails part b why left
     ⊎ ((x : X) × (c : List ℕ) × Fits x × (b ≡ spell x ++ c) × Behind x c why left)
@@ -60,12 +60,12 @@ IsByte P reason b why left = (x : ℕ) × (c : List ℕ) × (b ≡ x ∷ c) × P
 abbrev pub Behind : ℕ → Refusals → Refusals
 Behind x Rest b why left = (c : List ℕ) × (b ≡ x ∷ c) × Rest c why left
 
--- an option is refused: there is no byte, the byte is neither 0 nor 1, or the part behind 1 is
+-- an option is refused: there is no byte, the byte is neither 0 nor 1, or the part after 1 is
 abbrev pub OptionFails : {X : Type 0} → Reader X → Refusals
 OptionFails part b why left = EndsBefore 1 b why left
     ⊎ (IsByte (λ x. 1 < x) registry.BadOption b why left ⊎ Behind 1 (Fails part) b why left)
 
--- a type's id is refused, or it is another than its position, or the type behind it is refused
+-- a type's id is refused, or it is another than its position, or the type after it is refused
 abbrev pub PlacedFails : ℕ → Refusals
 PlacedFails i b why left = Fails length_at b why left
     ⊎ ((j : ℕ) × (c : List ℕ) × (j < 2 ^ 32) × (b ≡ compact j ++ c)
@@ -85,7 +85,7 @@ LetterFails letters b why left = (front : List ℕ) × (letter : ℕ) × (others
     × (EndsBefore 1 c why left ⊎ IsByte (λ x. x ≢ letter) registry.NotMetadata c why left)
 
 -- what follows the letters is refused: there is no version, one that is not read, or the registry
--- behind it
+-- after it
 abbrev pub VersionFails : Refusals
 VersionFails b why left = EndsBefore 1 b why left
     ⊎ (IsByte (λ x. version_of x ≡ None) registry.WrongVersion b why left

@@ -57,14 +57,14 @@ not_all j b v n some h = by_outcome j b (done v) n h
     ∙ ap (option_map (λ t. record { types = j.registry; ty = j.ty; tree = t }))
     (whole_where (length b) n v false (ne_eqb n (length b) some))
 
--- a fault of the bytes, which is no want of memory
+-- a fault of the bytes, which is no allocation failure
 ended : (j : Job) (b : List ℕ) (f : DecodeFault) (n : ℕ) → f.reason ≢ reason.OutOfMemory →
     IsEnded j b f n → value_in j b ≡ None
 ended j b f n other (inl is) = absurd (other (ap (λ (x : DecodeFault). x.reason) is.0))
 ended j b f n other (inr (inl h)) = by_outcome j b too_long n h.1
 ended j b f n other (inr (inr h)) = by_outcome j b (refused h.0 h.1) n h.3
 
--- bytes that a decoder refuses, and not for want of memory, spell no value
+-- bytes that a decoder refuses, and not for an allocation failure, spell no value
 pub faulted : (j : Job) (b : List ℕ) (f : DecodeFault) → f.reason ≢ reason.OutOfMemory →
     FinishesDecoder j b (Err f) → value_in j b ≡ None
 faulted j b f other (inl h) = by_outcome j b more (length b) h.1
@@ -72,7 +72,7 @@ faulted j b f other (inr h) = ended j b f h.0 other h.1
 
 -- ---- what a refusal says
 
--- a fault that is not want of memory is reported of the bytes, which spell no value
+-- a fault that is not an allocation failure is reported of the bytes, which spell no value
 reported_fault : (forbidden : Option OpenFault) (j : Job) (b : List ℕ) (f : DecodeFault) →
     forbidden ≡ None → f.reason ≢ reason.OutOfMemory → FinishesDecoder j b (Err f) →
     (forbidden ≡ None) × (value_in j b ≡ None) × FinishesDecoder j b (Err f)

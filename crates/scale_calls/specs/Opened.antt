@@ -58,7 +58,7 @@ RefusesTypes metadata bytes (refusal.TrailingBytes at) = (types_of metadata byte
 RefusesTypes metadata bytes (refusal.Check unknown) = ⊥
 RefusesTypes metadata bytes refusal.Memory = Unit {0}
 
--- why types are refused: the first reference that is no position, unless memory was refused
+-- why types are refused: the first reference that is no position, unless an allocation failed
 abbrev pub RefusesCheck : List TypeInfo → RegistryRefusal → Type 0
 RefusesCheck types (refusal.Check unknown) = first_fault types ≡ Some (unknown.from, unknown.to)
 RefusesCheck types refusal.Memory = Unit {0}

@@ -21,11 +21,11 @@ abbrev pub registry_refusal_by : RegistryReason → RegistryFault → RegistryRe
 registry_refusal_by registry.OutOfMemory f = types.Memory
 registry_refusal_by _ f = types.Fault f
 
--- a registry's fault, where want of memory is no fault of its bytes
+-- a registry's fault, where an allocation failure is no fault of its bytes
 abbrev pub registry_refusal : RegistryFault → RegistryRefusal
 registry_refusal f = registry_refusal_by f.reason f
 
--- a check's fault, where want of memory is none of the registry's
+-- a check's fault, where an allocation failure is none of the registry's
 abbrev pub check_refusal : CheckFault → RegistryRefusal
 check_refusal (check.UnknownType from to) = types.Check (record { from = from.0; to = to.0 })
 check_refusal check.OutOfMemory = types.Memory
@@ -35,7 +35,7 @@ abbrev pub value_refusal_by : DecodeReason → DecodeFault → ValueRefusal
 value_refusal_by reason.OutOfMemory f = value.Memory
 value_refusal_by _ f = value.Fault f
 
--- a value's fault, where want of memory is no fault of its bytes
+-- a value's fault, where an allocation failure is no fault of its bytes
 abbrev pub value_refusal : DecodeFault → ValueRefusal
 value_refusal f = value_refusal_by f.reason f
 

@@ -25,7 +25,7 @@ value_in j bytes = option_map (λ v. record { types = j.registry; ty = j.ty; tre
     (whole (length bytes) (outcome_of j bytes).0 (outcome_of j bytes).1)
 
 -- why bytes are refused: the type or a limit, the fault of the bytes, or that some follow the
--- value, unless memory was refused
+-- value, unless an allocation failed
 abbrev pub RefusesValue : Option OpenFault → Job → List ℕ → ValueRefusal → Type 0
 RefusesValue forbidden j b refusal.UnknownType = forbidden ≡ Some opening.UnknownType
 RefusesValue forbidden j b refusal.LimitOutOfRange = forbidden ≡ Some opening.LimitOutOfRange

@@ -45,7 +45,7 @@ bytes_needed-enough (suc k) n h = elim (cases_lt n (256 ^ k)) [
 
 -- ---- lists of bytes
 
--- where a list is of bytes, what is left behind a front is
+-- where a list is of bytes, what is left after a front is
 pub rest_bytes : (c rest : List ℕ) → AreBytes (c ++ rest) → AreBytes rest
 rest_bytes [] rest h = h
 rest_bytes (x ∷ c) rest h = rest_bytes c rest h.1

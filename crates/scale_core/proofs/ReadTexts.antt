@@ -25,7 +25,7 @@ text_at-fault bytes e is = rw is refl
 abbrev pub slice_from : List ℕ → ℕ → List ℕ
 slice_from bytes start = take (length bytes - start) (drop start bytes)
 
--- what is behind a place is what is left where as many bytes are dropped
+-- what is after a place is what is left where as many bytes are dropped
 after-drop : (bytes : List ℕ) (start : ℕ) → slice_from bytes start ≡ drop start bytes
 after-drop bytes start =
     take_all (length bytes - start) (drop start bytes) (omega (arith, length-drop start bytes))

@@ -92,13 +92,13 @@ index_after : (ys zs : List ℕ) (y : ℕ) → slice_index (ys ++ y ∷ zs) (len
 index_after [] zs y = refl
 index_after (x ∷ ys) zs y = index_after ys zs y
 
--- the place goes back over a byte that is this one, and stays behind another
+-- the place goes back over a byte that is this one, and stays after another
 at_byte : (text : List ℕ) (end byte : ℕ) (t : Bool) → 0 < end →
     (slice_index text (end - 1) == byte) ≡ t → back_over text end byte ≡ cond t (end - 1) end
 at_byte text end byte true some is = rw (lt-ltb 0 end some, is) refl
 at_byte text end byte false some is = rw (lt-ltb 0 end some, is) refl
 
--- the byte behind a front is the one before the place after it
+-- the byte after a front is the one before the place after it
 before_place : (ys zs : List ℕ) (y : ℕ) → slice_index (ys ++ y ∷ zs) (suc (length ys) - 1) ≡ y
 before_place ys zs y = subst (λ (n : ℕ). slice_index (ys ++ y ∷ zs) n ≡ y) (omega arith)
     (index_after ys zs y)
@@ -116,7 +116,7 @@ before_other : (ys zs : List ℕ) (y byte : ℕ) → (y == byte) ≡ false →
 before_other ys zs y byte other = at_byte (ys ++ y ∷ zs) (suc (length ys)) byte false (omega arith)
     (ap (λ (n : ℕ). n == byte) (before_place ys zs y) ∙ other)
 
--- how long a list is with one more behind it
+-- how long a list is with one more after it
 one_more : (ys : List ℕ) (y : ℕ) → length (ys ++ y ∷ []) ≡ suc (length ys)
 one_more ys y = omega (arith, length-append ys (y ∷ []))
 
@@ -147,7 +147,7 @@ end_of_line ys =
     ∙ ap (λ (b : Bool). cond b (length text) (back_over text (length ys) 13))
     (ne_eqb (length ys) (length text) (λ e. absurd (omega (arith, e, one_more ys 10))))
 
--- two ways to join a list of two behind another
+-- two ways to join a list of two after another
 two_more : (ys : List ℕ) (y z : ℕ) → (ys ++ y ∷ []) ++ z ∷ [] ≡ ys ++ y ∷ z ∷ []
 two_more ys y z = append_assoc ys (y ∷ []) (z ∷ [])
 
@@ -164,7 +164,7 @@ end_of_two : (ys : List ℕ) (y : ℕ) → (t : Bool) → (y == 13) ≡ t →
 end_of_two ys y true is = before_feed ys y ∙ over_byte ys (10 ∷ []) y 13 (eqb-true y 13 is)
 end_of_two ys y false is = before_feed ys y ∙ before_other ys (10 ∷ []) y 13 is
 
--- what is left behind a front
+-- what is left after a front
 after : (ys zs : List ℕ) → drop (length ys) (ys ++ zs) ≡ zs
 after ys zs = drop_at ys zs (length ys) refl
 
@@ -192,7 +192,7 @@ feed_is ys = elim (last_of ys) [
       ∙ after (zs ++ z ∷ []) (10 ∷ []) in
       line_at (zs ++ z ∷ 10 ∷ []) (suc (length zs)) (end_of_two zs z false is) (inr (inl dropped))
 
--- what is left behind the digits is a line end
+-- what is left after the digits is a line end
 line_end_is : (rest : List ℕ) → IsLineEnd (drop (digits_end rest) rest)
 line_end_is rest = elim (last_of rest) [
   | inl e ↦ rw e (inl refl)
@@ -287,7 +287,7 @@ prefix_is front digits end bytes mark h line = elim mark [
   | inr e ↦ rw e refl
 ]
 
--- the mark is what stands in front of the digits
+-- the mark is what stands before the digits
 mark_is : (text : List ℕ) → IsMark (take (prefix_len text) text)
 mark_is text = by (bytes_eq (codes "0x") (take 2 text)) refl where
   by : (t : Bool) → bytes_eq (codes "0x") (take 2 text) ≡ t → IsMark (take (cond t 2 0) text)

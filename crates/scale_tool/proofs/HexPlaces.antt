@@ -54,14 +54,15 @@ pub bad_within : (text : List ℕ) (c i : ℕ) → decode_of text ≡ Err (Inval
     i < length text
 bad_within text c i e = either_within (length text % 2 == 1) text c i e
 
--- decoding reported this fault, and not want of memory
+-- decoding reported this fault, and not an allocation failure
 pub reported_fault : (text : List ℕ) (e fault : FromHexError) → e ≡ fault →
     (fault ≡ OutOfMemory → ⊥) →
     (e ≡ OutOfMemory) ⊎ (decode_of text ≡ Err e) → decode_of text ≡ Err fault
 reported_fault text e fault is other (inl o) = absurd (other (sym is ∙ o))
 reported_fault text e fault is other (inr h) = h ∙ ap Err is
 
--- decoding that reported a byte that is no digit, and not want of memory, refuses the text for it
+-- decoding that reported a byte that is no digit, and not an allocation failure, refuses the text
+-- for it
 pub reported_bad : (text : List ℕ) (e : FromHexError) (c i : ℕ) → e ≡ InvalidHexCharacter c i →
     (e ≡ OutOfMemory) ⊎ (decode_of text ≡ Err e) → decode_of text ≡ Err (InvalidHexCharacter c i)
 reported_bad text e c i is h = reported_fault text e (InvalidHexCharacter c i) is (λ o. absurd cc) h

@@ -55,7 +55,7 @@ value_faults known file metadata hex id depth found refusal.ValueDevice h r = tt
 value_faults known file metadata hex id depth found refusal.Memory h r = tt
 value_faults known file metadata hex id depth found _ h r = absurd r
 
--- where a refusal is answered and reported, or want of memory for its line, one is
+-- where a refusal is answered and reported, or an allocation failure for its line, one is
 pub reports_refused : (Holds : Refusal → Type 0) (Sent : List ℕ → Type 0) (e : Refusal)
     (status : ℕ) → Holds e → Holds refusal.Memory →
     ((status ≡ status_of e) × Sent (refusal_line e))

@@ -30,7 +30,7 @@ reported_text fault.Usage = codes "scaleview: usage\n"
 reported_text fault.Memory = codes "scaleview: memory\n"
 
 -- what the words are refused for: by `clap`, with one of the kinds that it has for them and not for
--- want of memory, or where it has
+-- an allocation failure, or where it has
 -- none and they name no job
 abbrev pub IsFaultOfWords : List Text → JobFault → Type 0
 IsFaultOfWords words (fault.Line e text) = HasKind (fault_of line words) e

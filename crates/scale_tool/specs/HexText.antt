@@ -11,7 +11,7 @@ use Rattle.scale_tool.specs.declared.refusal.HexFault.TheVariants as fault
 use Rattle.scale_tool.specs.declared.refusal.HexRefusal.{HexRefusal}
 use Rattle.scale_tool.specs.declared.refusal.HexRefusal.TheVariants as hex
 
--- how many bytes stand in front of the digits
+-- how many bytes stand before the digits
 abbrev pub prefix_len : List ℕ → ℕ
 prefix_len text = if bytes_eq (codes "0x") (take 2 text) then 2 else 0
 
@@ -41,7 +41,7 @@ bytes_after start rest =
 unfoldable pub hex_bytes : List ℕ → Result (List ℕ) HexFault
 hex_bytes text = bytes_after (prefix_len text) (drop (prefix_len text) text)
 
--- what such a text is refused for; where memory is refused nothing is said of it
+-- what such a text is refused for; where an allocation fails nothing is said of it
 abbrev pub IsOfHex : Result (List ℕ) HexFault → HexRefusal → Type 0
 IsOfHex bytes (hex.Fault f) = bytes ≡ Err f
 IsOfHex bytes hex.Memory = Unit {0}

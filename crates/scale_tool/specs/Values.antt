@@ -35,8 +35,8 @@ abbrev pub ReadsFile : Option Seen → Result Seen Refusal → Type 0
 ReadsFile value (Ok v) = value ≡ Some v
 ReadsFile value (Err e) = IsRejected e → value ≡ None
 
--- what a refusal says of a value's file, where its bytes are known, unless the device failed or
--- memory was refused: the fault of its digits or of the bytes that it has, or that some follow the
+-- what a refusal says of a value's file, where its bytes are known, unless the device failed or an
+-- allocation failed: the fault of its digits or of the bytes that it has, or that some follow the
 -- value
 abbrev pub ReportsFile : Bool → decoder.Job → Option (List ℕ) → Refusal → Type 0
 ReportsFile hex j known (refusal.Hex fault) =

@@ -1,4 +1,4 @@
--- What a refused end says, where want of memory is no fault of the bytes.
+-- What a refused end says, where an allocation failure is no fault of the bytes.
 use Rattle.std.proofs.Common.{ℕ, List, Err}
 use Rattle.decode_core.specs.Decoding.{FinishesDecoder}
 use Rattle.machine_core.specs.Outcome.{Job}

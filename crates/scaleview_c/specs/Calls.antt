@@ -1,4 +1,4 @@
--- What each call does to what is behind its handles, and what it reports.
+-- What each call does to what is after its handles, and what it reports.
 use Rattle.std.specs.Prelude.{◌≡◌, ℕ, ◌⊎◌, List, [], ◌++◌, length, Bool, Option}
 use Rattle.std.specs.Prelude.{Some, None, MatchOption, Result, Ok, Err, string_bytes}
 use Rattle.grammar_core.specs.declared.limits.Limits.{Limits}
@@ -39,7 +39,7 @@ Leaves old new reported a = (new ≡ old) × (a ≡ reported)
 
 -- ---- registries
 
--- the registry that the bytes hold is behind the handle; or nothing is, and it is reported why
+-- the registry that the bytes hold is after the handle; or nothing is, and it is reported why
 abbrev pub OpensRegistry : Bool → List ℕ → Option Resource → Answer → Type 0
 OpensRegistry metadata b (Some (held.Registry o)) a = (checked_of metadata b ≡ Some o.checked.types)
     × (a ≡ counted 0 (length o.checked.types))
@@ -47,11 +47,11 @@ OpensRegistry metadata b (Some (held.Session s)) a = ⊥
 OpensRegistry metadata b None a = (e : RegistryRefusal) × RefusesRegistry metadata b e
     × (a ≡ registry_answer e)
 
--- it is reported that the handle is not none, and what is behind it stays
+-- it is reported that the handle is not none, and what is after it stays
 abbrev pub Stays : Option Resource → Option Resource → Answer → Type 0
 Stays old new a = (new ≡ old) × (a ≡ plain 6)
 
--- the registry is opened behind a handle that is none
+-- the registry is opened after a handle that is none
 abbrev pub OpensHandle : Option Resource → Bool → List ℕ → Option Resource → Answer → Type 0
 OpensHandle (Some old) metadata b new a = Stays (Some old) new a
 OpensHandle None metadata b new a = OpensRegistry metadata b new a
@@ -64,7 +64,7 @@ OpensBox value_of metadata b (Ok x) =
     OpensRegistry metadata b (Some (value_of x.0)) (counted 0 x.1)
 OpensBox value_of metadata b (Err e) = RefusesRegistry metadata b e
 
--- nothing is behind the handle any more; or it stays, since a session has the registry, or since
+-- nothing is after the handle any more; or it stays, since a session has the registry, or since
 -- it is no registry
 abbrev pub ClosesRegistry : Option Resource → Option Resource → ℕ → Type 0
 ClosesRegistry (Some (held.Registry o)) new code = ((code ≡ 0) × (new ≡ None))
@@ -78,7 +78,7 @@ ReportsTypes (Some (held.Registry o)) a = a ≡ counted 0 (length o.checked.type
 ReportsTypes (Some (held.Session s)) a = a ≡ plain 5
 ReportsTypes None a = a ≡ plain 5
 
--- the line of the type is written, where there is one, unless memory was refused
+-- the line of the type is written, where there is one, unless an allocation failed
 abbrev pub WritesLine : Option Resource → ℕ → List ℕ → List ℕ → Answer → Type 0
 WritesLine (Some (held.Registry o)) id old new a = Leaves old new (plain 3) a
     ⊎ MatchOption (type_line o.checked.types id) (Leaves old new (plain 201) a)
@@ -104,7 +104,7 @@ WritesValue None id limits b old new a = Leaves old new (plain 5) a
 
 -- ---- sessions
 
--- why no session is started, unless memory was refused
+-- why no session is started, unless an allocation failed
 abbrev pub ForbidsStart : Option OpenFault → Answer → Type 0
 ForbidsStart forbidden a = ((f : OpenFault) × (forbidden ≡ Some f)
     × (a ≡ value_answer (opening_refusal f))) ⊎ (a ≡ plain 3)
@@ -127,7 +127,7 @@ StartsBox value_of o id limits (Ok x) = IsSession o id limits (value_of x)
 StartsBox value_of o id limits (Err e) =
     ForbidsStart (opening_fault o.checked.types id limits) (value_answer e)
 
--- such a session is behind the handle; or nothing is, and it is reported why
+-- such a session is after the handle; or nothing is, and it is reported why
 abbrev pub StartsSession : Option Resource → ℕ → Limits → Option Resource → Answer → Type 0
 StartsSession (Some (held.Registry o)) id limits (Some (held.Session s)) a =
     IsStarted o id limits s.stage
@@ -138,7 +138,7 @@ StartsSession (Some (held.Registry o)) id limits None a =
 StartsSession (Some (held.Session s)) id limits new a = (new ≡ None) × (a ≡ plain 5)
 StartsSession None id limits new a = (new ≡ None) × (a ≡ plain 5)
 
--- the session is started behind a handle that is none
+-- the session is started after a handle that is none
 abbrev pub StartsHandle : Option Resource → Option Resource → ℕ → Limits → Option Resource →
     Answer → Type 0
 StartsHandle (Some old) registry id limits new a = Stays (Some old) new a
@@ -170,7 +170,7 @@ Feeds (Some (held.Session s)) piece None a = ⊥
 Feeds (Some (held.Registry o)) piece new a = IsNone (Some (held.Registry o)) new a
 Feeds None piece new a = IsNone None new a
 
--- a number of a decoder that is on its way
+-- a number of a decoder that is in progress
 abbrev pub number_by : (Decoding → ℕ) → Stage → ℕ
 number_by count (stage.Decoding d) = count d
 number_by count (stage.Shown text) = 0
@@ -186,7 +186,8 @@ Reports count (Some (held.Session s)) new a = (new ≡ Some (held.Session s))
 Reports count (Some (held.Registry o)) new a = IsNone (Some (held.Registry o)) new a
 Reports count None new a = IsNone None new a
 
--- the end of these bytes: the JSON of their value, or why there is none, unless memory was refused
+-- the end of these bytes: the JSON of their value, or why there is none, unless an allocation
+-- failed
 abbrev pub EndsAs : Job → List ℕ → Stage → Type 0
 EndsAs j b (stage.Shown text) = (v : Seen) × FinishesDecoder j b (Ok v)
     × (string_bytes text ≡ json_text v)
@@ -195,7 +196,7 @@ EndsAs j b (stage.Refused value.Memory) = Unit {0}
 EndsAs j b (stage.Refused _) = ⊥
 EndsAs j b (stage.Decoding d) = ⊥
 
--- a value on its way is ended, and one that was ended stays
+-- a value in progress is ended, and one that was ended stays
 abbrev pub Ends : Stage → Stage → Type 0
 Ends (stage.Decoding d) new = (b : List ℕ) → Led d b → EndsAs d.job b new
 Ends (stage.Shown text) new = new ≡ stage.Shown text
@@ -216,7 +217,7 @@ FinishesSession (Some (held.Registry o)) kept old new a = IsNone (Some (held.Reg
     × (new ≡ old)
 FinishesSession None kept old new a = IsNone None kept a × (new ≡ old)
 
--- nothing is behind the handle any more, or the registry that was there
+-- nothing is after the handle any more, or the registry that was there
 abbrev pub Frees : Option Resource → Option Resource → ℕ → Type 0
 Frees (Some (held.Session s)) new code = (new ≡ None) × (code ≡ 0)
 Frees (Some (held.Registry o)) new code = (new ≡ Some (held.Registry o)) × (code ≡ 5)

@@ -35,7 +35,7 @@ fn opened(
     }
 }
 
-/// Opens the registry that the bytes hold, alone or in metadata, behind a null handle.
+/// Opens the registry that the bytes hold, alone or in metadata, after a null handle.
 #[unsafe(no_mangle)]
 pub extern "C" fn scaleview_open(
     alloc: Global,

@@ -99,7 +99,7 @@ unsigned_next w p v n e f h =
       refl,
     )
 
--- the length that stands in front of a run
+-- the length that stands before a run
 run_own : (k : RunKind) (n : ℕ) → n < 2 ^ 32 → FitsKind k n → (c : List ℕ) × AreBytes c
     × IsRunLength k n c
 run_own kind.Text n h f = (compact n, are_compact n, (omega (arith, h), refl))

@@ -243,8 +243,8 @@ judged_end missing b = elim missing [
   | Err e ↦ Some e
 ]
 
--- where no refusal applies the value is the one with the node, unless memory is refused; and after
--- a refusal it is as it was
+-- where no refusal applies the value is the one with the node, unless an allocation fails; and
+-- after a refusal it is as it was
 abbrev pub Adds : Option BuildFault → Built → Built → Built → Result (Unit {0}) BuildFault → Type 0
 Adds None with old new (Ok _) = new ≡ with
 Adds None with old new (Err e) = (e ≡ fault.OutOfMemory) × (new ≡ old)

@@ -24,7 +24,9 @@ use std::alloc::{AllocError, Allocator};
 /// Makes room for one more node of a walk: where there is none, ahead for others too, and for the
 /// bytes beside them.
 ///
-/// Refuses want of memory for one more. Nothing that is there changes in either case.
+/// # Errors
+///
+/// `AllocError` if the allocation for one more fails. Nothing that is there changes in either case.
 #[inline(always)]
 fn make_room<A: Allocator>(
     nodes: &mut GrowVec<Node, A>,
@@ -68,7 +70,7 @@ pub(crate) fn append<A: Allocator>(
     Ok(())
 }
 
-/// Appends a node: it, or where memory is refused nothing.
+/// Appends a node, or nothing if an allocation fails.
 #[inline(always)]
 pub(crate) fn append_node<A: Allocator>(
     nodes: &mut GrowVec<Node, A>,

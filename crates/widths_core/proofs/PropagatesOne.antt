@@ -240,7 +240,7 @@ pub record PropagatesSoFar (r : List TypeInfo) (a b : Graph) (s n : Progress) (d
     pub follows : Follows s n
     pub lists : Lists a b
 
--- a number is at least once more in the list than in front of a place at which it stands
+-- a number is at least once more in the list than before a place at which it stands
 times_at : (xs : List ℕ) (i : ℕ) → i < length xs →
     times (get_or xs i 0) (take i xs) + 1 ≤ times (get_or xs i 0) xs
 times_at [] i lt = absurd (omega arith)

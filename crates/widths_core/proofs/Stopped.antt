@@ -44,7 +44,7 @@ stops_arms t i k arms x cs ds a b m c index count o lt at h begins stopped =
     (all_parts (arm_rules t [] arms)) _ a b c o
     (joined ∙ ap (λ (ws : List ℕ). all_parts h.done ++ ws) (left ∙ next)) h.adds.reads stops
 
--- where memory is refused after the fields of an arm were read
+-- where an allocation fails after the fields of an arm were read
 pub stops_memory_after : (a b m c : Graph) (xs ks ys ls : List ℕ) (index count : ℕ) →
     ReadsReferences a b xs ks → BeginsArm b m index count → ReadsReferences m c ys ls →
     StopsBetween a c
@@ -52,7 +52,7 @@ stops_memory_after a b m c xs ks ys ls index count h begins k =
     stops_read a c (xs ++ ([] ++ ys)) (ks ++ ([] ++ ls)) (reads_on a b c xs ([] ++ ys) ks ([] ++ ls)
     h (reads_on b m c [] ys [] ls (reads_begun b m index count h.linked begins) k))
 
--- where want of memory is answered
+-- where an allocation failure is answered
 pub stops_memory_is : {X : Type 0} (o : Result X LinkStop) (tos : List ℕ) (a b : Graph) →
     o ≡ Err stop.Memory → StopsBetween a b → IfErr o (StopsLinking tos a b)
 stops_memory_is (Ok x) tos a b e h = absurd cc

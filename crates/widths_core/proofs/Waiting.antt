@@ -46,7 +46,7 @@ and_false : (b : Bool) → (b && false) ≡ false
 and_false true = refl
 and_false false = refl
 
--- a reference in front of those that are counted changes nothing of how many wait
+-- a reference before those that are counted changes nothing of how many wait
 waiting-past : (e i : ℕ) (xs : List ℕ) (k : ℕ) (propagated : List ℕ) → i < e →
     waiting e xs k (i ∷ propagated) ≡ waiting e xs k propagated
 waiting-past e i [] k propagated lt = refl

@@ -140,7 +140,7 @@ counts_end j b slice s last taken k n from to calls closed led moves few sound i
       more_bytes (taken + length (take k slice)) n j.depth (widest j.registry) cut,
     )
 
--- where turns end for want of memory, all turns of both loops stay within the bound
+-- where turns end at an allocation failure, all turns of both loops stay within the bound
 pub counts_short : (j : Job) (b slice : List ℕ) (s new : Running) (taken k from to calls : ℕ) →
     RunLed j b taken (Ok s) → StopsShort s new slice k from to →
     from ≤ taken + length s.built.entries + calls →

@@ -1,4 +1,4 @@
--- What the turns on a piece made of a value on its way, by the limit of bytes.
+-- What the turns on a piece made of a value in progress, by the limit of bytes.
 use Rattle.std.proofs.Common.{◌≡◌, ℕ, ◌+◌, ◌-◌, ◌<◌, ◌≤◌, true, List, ◌++◌, length, take, drop, Ok}
 use Rattle.std.proofs.Common.{refl, sym, ap, subst, ◌∙◌, arith, inl, inr, length-append}
 use Rattle.std.proofs.Common.{length-drop}
@@ -94,9 +94,9 @@ run_refused j b piece slice s new limit taken k held reported_reason at len why 
       r.1.2,
     ))
 
--- ---- memory is refused
+-- ---- an allocation fails
 
--- turns that end for want of memory lead to where it is wanted
+-- turns that end at an allocation failure lead to where it is wanted
 pub runs_out : (s new : Running) (slice : List ℕ) (k : ℕ) (why : Stopped) →
     FeedReports s new slice k why → why ≡ stop.OutOfMemory → RunsOut s slice k
 runs_out s new slice k why f is =
@@ -108,7 +108,7 @@ stops_otherwise r whole is =
     let no : stop.OutOfMemory ≡ stop.Finished =
     sym is ∙ ap (λ (x : ℕ × Stopped). x.1) whole in absurd cc
 
--- turns that end for want of memory end the decoder so, if its value was not whole
+-- turns that end at an allocation failure end the decoder so, if its value was not whole
 pub run_short : (j : Job) (b piece slice : List ℕ) (s : Running) (limit taken k : ℕ) →
     j.bytes ≡ limit → slice ≡ take (limit - taken) piece → RunLed j b taken (Ok s) →
     (is_complete s.built ≡ true → ⊥) → RunsOut s slice k →
@@ -120,7 +120,7 @@ run_short j b piece slice s limit taken k e is (inl g) going f =
     let at = subst (λ (l : List ℕ). RunsOut s l k) same f in
     inl (refl, fed_short j b piece s at.1.0 taken k g at.0 at.1.1 at.1.2 at.1.3)
 
--- no bytes are refused for want of memory
+-- no bytes are rejected as an allocation failure
 not_memory : (e : Refusal) → reason_of e ≡ reason.OutOfMemory → ⊥
 not_memory (basic scale.Truncated) h = absurd cc
 not_memory (basic _) h = absurd cc

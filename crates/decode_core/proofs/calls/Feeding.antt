@@ -104,7 +104,7 @@ done_again j b piece s last n k g le m st sound =
 
 -- ---- be it whole or not
 
--- turns that end with a whole value make the decoder done, be it on its way or whole before
+-- turns that end with a whole value make the decoder done, be it in progress or whole before
 pub led_done : (j : Job) (b piece : List ℕ) (s new : Running) (n k : ℕ) → RunLed j b n (Ok s) →
     FeedReports s new (offered j n piece) k stop.Finished → IsDone j (b ++ piece) new (n + k)
 led_done j b piece s new n k (inl g) f =

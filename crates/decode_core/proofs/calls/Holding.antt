@@ -35,7 +35,7 @@ use Rattle.machine_core.proofs.lists.ReportedSpells.{HoldsBytes, entry_bytes, re
 
 -- ---- the tree and its bytes
 
--- the nodes' bytes stand in front of those that are held
+-- the nodes' bytes stand before those that are held
 own_is : (j : Job) (b : List ℕ) (s : Running) → IsOf j s → AreBytes b → IsWaiting j b s →
     b ≡ built_bytes s.built ++ held_of s
 own_is j b s of are w =

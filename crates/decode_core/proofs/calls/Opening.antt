@@ -88,7 +88,7 @@ run_of : (j : Job) (b : List ℕ) (n : ℕ) (s : Running) → RunLed j b n (Ok s
 run_of j b n s (inl g) = g.same
 run_of j b n s (inr g) = g.same
 
--- a decoder has one value on its way
+-- a decoder has one value in progress
 pub same_run : (s t : Running) (run : Result Running DecodeFault) → run ≡ Ok s → run ≡ Ok t → s ≡ t
 same_run s t run h k = let both = sym h ∙ k in cc
 

@@ -48,7 +48,7 @@ abbrev ReportedWithin : {E X : Type 0} → (E → Refusal) → List ℕ → ℕ 
 ReportedWithin m b k (Ok x) = Unit {0}
 ReportedWithin m b k (Err e) = (length e.1 ≤ length b) × IsTakenBefore (m e.0) e.1 (place b e.1) k
 
--- where bytes stand in front of a fault, its place and what is taken move by as many
+-- where bytes stand before a fault, its place and what is taken move by as many
 moved : (reason : Refusal) (left : List ℕ) (c at k : ℕ) → IsTakenBefore reason left at k →
     IsTakenBefore reason left (c + at) (c + k)
 moved (basic reasons.Truncated) left c at k h = h

@@ -1,4 +1,4 @@
--- The nodes that a reading adds spell the bytes in front of where it ends.
+-- The nodes that a reading adds spell the bytes before where it ends.
 use Rattle.std.proofs.Common.{◌≡◌, ℕ, zero, suc, List, [], ◌∷◌, ◌++◌, Option, Some, None, Ok}
 use Rattle.std.proofs.Common.{Err, refl, sym, ap, flat_map, subst, ◌∙◌, append_assoc}
 use Rattle.std.proofs.lemmas.Grind.{flat_map-append}
@@ -28,7 +28,7 @@ use Rattle.machine_core.proofs.lists.Owns.{IsOpened, own_opened}
 abbrev pub entry_bytes : List TypeInfo → List Entry → List ℕ
 entry_bytes r xs = flat_map (λ (e : Entry). own_bytes (shape r e.ty) e.head) xs
 
--- they stand in front of what is left, or of the node that is refused
+-- they stand before what is left, or of the node that is refused
 abbrev pub HoldsBytes : List TypeInfo → List ℕ → Reported → Type 0
 HoldsBytes r b (reported xs (Ok rest)) = b ≡ entry_bytes r xs ++ rest
 HoldsBytes r b (reported xs (Err e)) = b ≡ entry_bytes r xs ++ e.1
@@ -86,7 +86,7 @@ opened_bytes r child h (Some (times n t)) b are = times_bytes r child h n t b ar
 
 -- ---- a node's own bytes
 
--- those in front of the rest are the node's
+-- those before the rest are the node's
 abbrev OwnReports : List TypeInfo → ℕ → List ℕ → Own → Type 0
 OwnReports r t b (Ok x) = b ≡ own_bytes (shape r t) x.0.0 ++ x.1
 OwnReports r t b (Err e) = Unit {0}
@@ -118,7 +118,7 @@ own_bytes_reported r child h t b (Ok x) are k =
 
 -- ---- a value
 
--- the nodes that a reading adds spell the bytes in front of where it ends
+-- the nodes that a reading adds spell the bytes before where it ends
 pub reported_spells : (r : List TypeInfo) (room t : ℕ) (b : List ℕ) → AreBytes b →
     HoldsBytes r b (reported_at r room t b)
 unfolding reported_at

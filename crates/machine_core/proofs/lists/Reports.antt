@@ -41,7 +41,7 @@ after-after xs ys (reported zs end) = rw append_assoc refl
 pub after-nil : (y : Reported) → after [] y ≡ y
 after-nil (reported xs end) = refl
 
--- nodes in front of the first of two readings stand in front of both
+-- nodes before the first of two readings stand before both
 pub then-after : (xs : List Entry) (y : Reported) (f : List ℕ → Reported) →
     then (after xs y) f ≡ after xs (then y f)
 then-after xs (reported ys (Ok rest)) f = sym (after-after xs ys (f rest))

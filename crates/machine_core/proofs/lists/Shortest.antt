@@ -311,7 +311,7 @@ pub with_children_finish : (k : Branch) (r : Read Refusal Trees) →
 with_children_finish k (Ok x) = refl
 with_children_finish k (Err e) = refl
 
--- putting a value in front of others changes the result and leaves the refusal
+-- putting a value before others changes the result and leaves the refusal
 pub and_finish : (v : Tree) (r : Read Refusal Trees) →
     (r >>= λ others. Ok (and v others.0, others.1)) ≡ finish (λ e. e) (and v) r
 and_finish v (Ok x) = refl

@@ -105,7 +105,7 @@ carried_so_far a d piece from to count is sound some reports =
     (call_on a a d piece 0 from from to 0 count (start_so_far a piece from)
     (carried_turn a d piece from to (Ok count) is sound some reports tt))
 
--- where memory was refused for it, the call ends
+-- where an allocation failed for it, the call ends
 pub carried_short : (a d : Running) (piece : List ℕ) (from to : ℕ) → to ≡ from + 1 →
     IsSound a → 1 ≤ length a.carry → CutReports a d piece tried.OutOfMemory →
     FeedTells a d piece from to (0, stop.OutOfMemory)

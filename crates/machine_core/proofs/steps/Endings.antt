@@ -90,7 +90,7 @@ nothing_by : (b : Built) (c : List ℕ) (run : Option Pieces) → IsCarry b c �
 nothing_by b c None h k never = no_carry b c h never
 nothing_by b c (Some t) h k never = absurd (never _ k.0)
 
--- a decoder on its way holds nothing where no form is wanted
+-- a decoder in progress holds nothing where no form is wanted
 nothing_held : (b : Built) (c : List ℕ) → IsRunning b c →
     ((f : Form) → next_of b.walk ≡ next.Wants f → ⊥) →
     held_of (record { built = b; carry = c }) ≡ []

@@ -239,7 +239,7 @@ pub array_read : (b : Built) (n : ℕ) → next_of b.walk ≡ next.Wants (form.A
     ≡ Ok ((head.branch tree.list n, Some (list_part (next_layout b) n)), [])
 array_read b n h = let f = next_has b (form.Array n) h in array_by (next_layout b) n f.0 f.1
 
--- a node is added by these bytes, or memory was refused for it
+-- a node is added by these bytes, or an allocation failed for it
 pub bytes_added : {E : Type 0} (b new : Built) (own : List ℕ) (x : Head × Option Part)
     (added : Result (Unit {0}) E) → own_at (next_layout b) own ≡ Ok (x, []) →
     OnOk added (new ≡ with_own b x) → OnErr added (new ≡ b) → AddsBytes b new own added

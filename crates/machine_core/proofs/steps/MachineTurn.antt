@@ -154,7 +154,7 @@ leads_settled b s own same le h =
 
 -- ---- a node that is added
 
--- the parts that are left behind the next node
+-- the parts that are left after the next node
 parts_after : (b : Built) (n : AtNext b) →
     open_parts (advanced_in b.walk.frames) ≡ left_after n.top.left ∷ open_parts n.around
 parts_after b n = rw n.frames refl

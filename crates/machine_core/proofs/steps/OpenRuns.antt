@@ -278,7 +278,7 @@ closed_is : (b : Built) (c : List ℕ) → IsRunOpen b c 0 → with_run_closed b
 closed_is b c n =
     ap (λ (o : Option Pieces). elim o [ Some t ↦ with_run_ended b | None ↦ b ]) n.open_is
 
--- where a run was ended whose bytes are not bad, the decoder is on its way again
+-- where a run was ended whose bytes are not bad, the decoder is in progress again
 pub ended_running : (b new : Built) (c : List ℕ) → IsRunOpen b c 0 → bad_text b.run ≡ None →
     new ≡ with_run_closed b → IsRunning new c
 ended_running b new c n good is =

@@ -57,7 +57,7 @@ settled_running s some deep closed = record {
   run_next = rw closed tt;
 }
 
--- with the next node added and nothing carried, a decoder is on its way
+-- with the next node added and nothing carried, a decoder is in progress
 own_running : (b : Built) (n : AtNext b) (x : Head × Option Part) → b.run ≡ None →
     IsRunning (with_own b x) []
 own_running b n (h, None) closed =

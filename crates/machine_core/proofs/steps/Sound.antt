@@ -5,7 +5,7 @@ use Rattle.value_core.specs.Built.{Built}
 use Rattle.machine_core.specs.Running.{Running, IsRunning}
 use Rattle.machine_core.specs.Turned.{IsSound}
 
--- what its fields say of a decoder on its way makes it sound, if a begun tree is built
+-- what its fields say of a decoder in progress makes it sound, if a begun tree is built
 pub sound_of : (b : Built) (carry : List ℕ) (s : Running) →
     record { built = b; carry = carry } ≡ s → IsBegun b → IsRunning b carry → IsSound s
 sound_of b carry s is begun run =

@@ -1,4 +1,4 @@
--- What a turn does to a decoder on its way: it holds bytes, or adds a node.
+-- What a turn does to a decoder in progress: it holds bytes, or adds a node.
 use Rattle.std.proofs.Common.{◌≡◌, ℕ, suc, ◌≤◌, List, [], ◌∷◌, ◌++◌, length, Option, Some, None, Ok}
 use Rattle.std.proofs.Common.{Err, refl, sym, ap, subst, ◌∙◌, arith, inl, inr, length-append}
 use Rattle.std.proofs.lemmas.List.{append-nil}
@@ -62,7 +62,7 @@ added_steps b new c own bytes n closed is h =
       added_count b new own h,
     )
 
--- a run's length that is read and leaves nothing is what stands in front of the run
+-- a run's length that is read and leaves nothing is what stands before the run
 spelled_of : (k : RunKind) (own : List ℕ) (n : ℕ) (read : Read Reason ℕ) →
     Takes (IsRunLength k) own read → read ≡ Ok (n, []) → own ≡ run_front k n
 spelled_of k own n (Err e) h is = absurd cc
@@ -111,7 +111,7 @@ taken_same f b new c d own (inr h) =
     (record { built = s; carry = d })) (sym h.4)
     (record { types = refl; limit = refl; ty = refl })
 
--- with a run opened that is next, a decoder is on its way
+-- with a run opened that is next, a decoder is in progress
 pub opened_running : (b : Built) (c : List ℕ) (k : RunKind) (n : ℕ) → IsRunning b c →
     next_of b.walk ≡ next.Wants (run_form k) → IsLength k n →
     IsRunning (with_run_opened b k n) []
@@ -123,7 +123,7 @@ opened_running b c k n h wants len = record {
   run_next = (wants, refl, len);
 }
 
--- after the next node's bytes were taken, a decoder is on its way with nothing carried
+-- after the next node's bytes were taken, a decoder is in progress with nothing carried
 pub taken_running : (f : Form) (b new : Built) (c own : List ℕ) → IsRunning b c →
     next_of b.walk ≡ next.Wants f → b.run ≡ None → AreOwn f own →
     IsAdded b new own ⊎ IsRunOpened f b new own → IsRunning new []

@@ -50,14 +50,14 @@ carry_none b [] f h k bare = refl
 carry_none b (x ∷ xs) f h k bare =
     absurd (bare (subst HasBytes (same_form (next_of b.walk) h.0 f h.1 k) h.2))
 
--- with nothing carried, a decoder stays on its way where a node without bytes is added or not
+-- with nothing carried, a decoder stays in progress where a node without bytes is added or not
 bare_by : {E : Type 0} (b new : Built) (f : Form) (added : Result (Unit {0}) E) →
     IsRunning b [] → next_of b.walk ≡ next.Wants f → b.run ≡ None →
     AddsBytes b new [] added → IsRunning new []
 bare_by b new f (Ok u) h k closed adds = added_running b new [] (at_next b f k) closed adds
 bare_by b new f (Err e) h k closed adds = subst (λ (s : Built). IsRunning s []) (sym adds.1) h
 
--- a decoder stays on its way, with its carry, where a node without own bytes is added or not
+-- a decoder stays in progress, with its carry, where a node without own bytes is added or not
 pub bare_running : {E : Type 0} (b new : Built) (carry : List ℕ) (f : Form)
     (added : Result (Unit {0}) E) → IsRunning b carry → next_of b.walk ≡ next.Wants f →
     (HasBytes f → ⊥) → b.run ≡ None → AddsBytes b new [] added → IsRunning new carry
@@ -118,7 +118,7 @@ node_wants f b c bytes rest own wants closed is k = record {
   );
 }
 
--- a decoder on its way without an open run is so also with its carry dropped
+-- a decoder in progress without an open run is so also with its carry dropped
 dropped : (b : Built) (c : List ℕ) → IsRunning b c → b.run ≡ None → IsRunning b []
 dropped b c h closed = record {
   rooted = h.rooted;
@@ -128,7 +128,7 @@ dropped b c h closed = record {
   run_next = rw closed tt;
 }
 
--- a decoder is on its way after the next node's bytes, whatever they made of it
+-- a decoder is in progress after the next node's bytes, whatever they made of it
 pub node_running : (f : Form) (b new : Built) (c own : List ℕ)
     (taken : Result (Unit {0}) NodeFault) → IsRunning b c → next_of b.walk ≡ next.Wants f →
     b.run ≡ None → AreOwn f own → TakesNode f b new own taken → IsRunning new []
@@ -215,7 +215,7 @@ wants_more b c f h wants some closed =
 
 -- ---- by the piece
 
--- a decoder on its way, as its fields are
+-- a decoder in progress, as its fields are
 abbrev pub of_fields : Built → List ℕ → Running
 of_fields b c = record { built = b; carry = c }
 
@@ -224,7 +224,7 @@ pub record IsAtNode (b : Built) (f : Form) : Type 0 where
   pub wants : next_of b.walk ≡ next.Wants f
   pub closed : b.run ≡ None
 
--- the same by what a decoder on its way is, as contracts see it
+-- the same by what a decoder in progress is, as contracts see it
 pub at_node : {b : Built} {c : List ℕ} {seen : Running} (f : Form) → of_fields b c ≡ seen →
     next_of seen.built.walk ≡ next.Wants f → seen.built.run ≡ None → IsAtNode b f
 at_node f is wants closed =
@@ -233,7 +233,7 @@ at_node f is wants closed =
       closed = subst (λ (s : Running). s.built.run ≡ None) (sym is) closed;
     }
 
--- nothing is carried, by what a decoder on its way is, as contracts see it
+-- nothing is carried, by what a decoder in progress is, as contracts see it
 pub carries_none : {b : Built} {c : List ℕ} {seen : Running} → of_fields b c ≡ seen →
     seen.carry ≡ [] → c ≡ []
 carries_none is none = subst (λ (s : Running). s.carry ≡ []) (sym is) none
@@ -243,7 +243,7 @@ some_own : (f : Form) (own : List ℕ) → AreOwn f own → 1 ≤ length own
 some_own f [] a = let no = a.2 in absurd cc
 some_own f (x ∷ own) a = omega arith
 
--- a decoder that carried nothing stays on its way after a node's bytes from the piece alone
+-- a decoder that carried nothing stays in progress after a node's bytes from the piece alone
 pub whole_running : (f : Form) (b new : Built) (c own : List ℕ)
     (taken : Result (Unit {0}) NodeFault) → IsRunning b c → c ≡ [] → IsAtNode b f →
     AreOwn f own → TakesNode f b new own taken → IsRunning new c
@@ -299,7 +299,7 @@ pub count_is : (c piece : List ℕ) (len count : ℕ) → length c < len →
 count_is c piece len count short is enough =
     (omega (arith, short, is, enough), omega (arith, is), omega (arith, short, enough))
 
--- bytes, one at least, begin with the first byte of a list that they stand in front of
+-- bytes, one at least, begin with the first byte of a list that they stand before
 front_is : (own more rest : List ℕ) (first : ℕ) → 1 ≤ length own → own ++ more ≡ first ∷ rest →
     (tail : List ℕ) × (own ≡ first ∷ tail)
 front_is [] more rest first some is = absurd (omega (arith, some))
@@ -315,7 +315,7 @@ pub record IsCut (f : Form) (c piece own : List ℕ) (len count : ℕ) : Type 0 
   pub counted : count ≡ min (len - length c) (length piece)
   pub enough : len ≤ length c + count
 
--- the same by what a decoder on its way is, as contracts see it, and by what its carry holds
+-- the same by what a decoder in progress is, as contracts see it, and by what its carry holds
 pub cut_inside : {b : Built} {c held piece own : List ℕ} {count : ℕ} {seen : Running} (f : Form)
     (len : ℕ) → of_fields b c ≡ seen → IsNeeded f len (seen.carry ++ piece) →
     length seen.carry < len → held ≡ c → own ≡ c ++ take count piece →

@@ -131,7 +131,7 @@ whole_added : (b new : Built) (own : List ℕ) (l : Leaf) → IsWholeLeaf b own 
     new ≡ with_leaf b (leaf_head l) → IsAdded b new own
 whole_added b new own l h is = ((leaf_head l, None), h.read, is)
 
--- the decoder is on its way again
+-- the decoder is in progress again
 pub leaf_running : (b new : Built) (c own : List ℕ) (l : Leaf) →
     c ≡ [] → IsWholeLeaf b own l → new ≡ with_leaf b (leaf_head l) → IsRunning new c
 leaf_running b new c own l none h is =

@@ -47,7 +47,7 @@ array_added b new piece len w = (
   w.is,
 )
 
--- after both the decoder is on its way
+-- after both the decoder is in progress
 pub wrapped_running : (b new : Built) (c piece : List ℕ) (len : ℕ) → IsRunning b c →
     next_of b.walk ≡ next.Wants form.Fields → b.run ≡ None → Wraps b new piece len →
     IsRunning new c
