@@ -32,22 +32,17 @@ static struct bytes read_file(const char *path) {
     return read;
 }
 
-/* The names of the codes from 101 and from 301 on. */
-static const char *const registry_reasons[] = {
-    "Truncated",    "BadUtf8",      "CompactNotShortest", "CompactTooLarge", "BadOption",    "BadDefinition",
-    "BadPrimitive", "IdOutOfPlace", "NotMetadata",        "WrongVersion",    "TrailingBytes"};
-static const char *const value_reasons[] = {
-    "Truncated",     "BadBool",  "BadChar",       "BadUtf8",     "CompactNotShortest", "CompactTooLarge", "NoSuchVariant",
-    "TooDeep",       "NoFiniteValue", "BitSequence", "BadCompact", "TooLong", "TrailingBytes"};
-
 /* Tells why there is no answer, in the command's words. */
 static int refuse(scaleview_answer answer, uint32_t type) {
     unsigned long long at = answer.at;
     uint32_t code = answer.code;
-    if (code >= SCALEVIEW_VALUE_TRUNCATED && code <= SCALEVIEW_VALUE_TRAILING_BYTES)
-        fprintf(stderr, "scaleview: value: %s at %llu\n", value_reasons[code - SCALEVIEW_VALUE_TRUNCATED], at);
+    scaleview_answer named;
+    uint8_t name[18];
+    scaleview_reason(code, name, sizeof name, &named);
+    if (code >= SCALEVIEW_VALUE_TRUNCATED)
+        fprintf(stderr, "scaleview: value: %.*s at %llu\n", (int)named.length, name, at);
     else if (code >= SCALEVIEW_REGISTRY_TRUNCATED && code <= SCALEVIEW_REGISTRY_TRAILING_BYTES)
-        fprintf(stderr, "scaleview: registry: %s at %llu\n", registry_reasons[code - SCALEVIEW_REGISTRY_TRUNCATED], at);
+        fprintf(stderr, "scaleview: registry: %.*s at %llu\n", (int)named.length, name, at);
     else if (code == SCALEVIEW_REGISTRY_UNKNOWN_REFERENCE)
         fprintf(stderr, "scaleview: check: UnknownType %llu in type %u\n", at, answer.from);
     else if (code == SCALEVIEW_UNKNOWN_TYPE)

@@ -103,6 +103,49 @@ static void check_taken(void) {
     check("closed", scaleview_close(&registry) == SCALEVIEW_OK);
 }
 
+/* An open registry reports where it ends, and the version of metadata. */
+static void check_opened(void) {
+    static const uint8_t metadata[] = {0x6d, 0x65, 0x74, 0x61, 0x0f, 0x04, 0x00, 0x00, 0x00, 0x05, 0x04, 0x00, 0xff};
+    scaleview_registry registry = {NULL};
+    scaleview_answer answer;
+    scaleview_open(u16_registry, sizeof u16_registry, false, &registry, &answer);
+    check("a registry alone", answer.from == 0 && answer.at == sizeof u16_registry && answer.length == 1);
+    scaleview_close(&registry);
+    scaleview_open(metadata, sizeof metadata, true, &registry, &answer);
+    check("metadata 15", answer.from == 15 && answer.at == sizeof metadata - 1 && answer.length == 1);
+    scaleview_close(&registry);
+}
+
+/* Each code has a name, and other numbers have none. */
+static void check_names(void) {
+    static const struct {
+        uint32_t code;
+        const char *name;
+    } named[] = {{SCALEVIEW_OK, "Ok"},
+                 {SCALEVIEW_TAKEN, "Taken"},
+                 {SCALEVIEW_TAKEN + 1, ""},
+                 {SCALEVIEW_REGISTRY_TRUNCATED - 1, ""},
+                 {SCALEVIEW_REGISTRY_TRUNCATED, "Truncated"},
+                 {SCALEVIEW_REGISTRY_COMPACT_NOT_SHORTEST, "CompactNotShortest"},
+                 {SCALEVIEW_REGISTRY_UNKNOWN_REFERENCE, "UnknownType"},
+                 {SCALEVIEW_REGISTRY_UNKNOWN_REFERENCE + 1, ""},
+                 {SCALEVIEW_UNKNOWN_TYPE, "UnknownType"},
+                 {SCALEVIEW_LIMIT_OUT_OF_RANGE, "LimitOutOfRange"},
+                 {SCALEVIEW_VALUE_BAD_CHAR, "BadChar"},
+                 {SCALEVIEW_VALUE_TRAILING_BYTES, "TrailingBytes"},
+                 {SCALEVIEW_VALUE_TRAILING_BYTES + 1, ""},
+                 {UINT32_MAX, ""}};
+    uint8_t out[18];
+    scaleview_answer answer;
+    for (size_t i = 0; i < sizeof named / sizeof *named; i++) {
+        size_t length = strlen(named[i].name);
+        check("a name", scaleview_reason(named[i].code, out, sizeof out, &answer) == SCALEVIEW_OK && answer.length == length);
+        check(named[i].name, !memcmp(out, named[i].name, length));
+    }
+    check("no room", scaleview_reason(SCALEVIEW_VALUE_BAD_CHAR, out, 6, &answer) == SCALEVIEW_NO_ROOM && answer.length == 7);
+    check("the version", scaleview_version() == SCALEVIEW_VERSION);
+}
+
 /* Bytes of texts and of runs are held, and given back. */
 static void check_counts(void) {
     static const uint8_t bytes_registry[] = {0x08, 0x00, 0x00, 0x00, 0x05, 0x03, 0x00, 0x04, 0x00, 0x00, 0x02, 0x00, 0x00};
@@ -331,6 +374,8 @@ int main(void) {
     check_kinds();
     check_none();
     check_taken();
+    check_opened();
+    check_names();
     check_counts();
     check_limit();
     check_later_pieces();

@@ -21,6 +21,9 @@
 extern "C" {
 #endif
 
+/* The version of this header: 10000 times the major number, 100 times the minor one, and the patch number. */
+#define SCALEVIEW_VERSION 100
+
 /* The codes that a call returns. The numbers never change; new ones may be added. */
 enum scaleview_code {
     SCALEVIEW_OK = 0,        /* the call succeeded */
@@ -67,8 +70,8 @@ enum scaleview_code {
 /* What a call reports besides its code, which is repeated here. Numbers are 0 unless the code gives them a meaning. */
 typedef struct scaleview_answer {
     uint32_t code;
-    uint32_t from;   /* SCALEVIEW_REGISTRY_UNKNOWN_REFERENCE: the position of the type that refers */
-    uint64_t at;     /* the place of a refusal, in bytes from the start of the input */
+    uint32_t from;   /* the position of the type that has the unknown reference; the version of an open registry's metadata */
+    uint64_t at;     /* the place of a refusal, or where an open registry ends, in bytes from the start of the input */
     uint64_t length; /* the number of bytes of a text, of types, or of bytes of a piece that belong to the value */
 } scaleview_answer;
 
@@ -86,8 +89,9 @@ typedef struct scaleview_session {
 /* Opens the registry that all the bytes hold. With `metadata` they are a chain's metadata, version 14 or 15, which begins
  * with the registry; what follows it is not read. The bytes are not kept.
  *
- * `registry` must be null, or the call returns SCALEVIEW_TAKEN. After SCALEVIEW_OK it is a registry that the caller closes,
- * and `answer->length` is its number of types. Otherwise the call returns SCALEVIEW_MEMORY or a code of
+ * `registry` must be null, or the call returns SCALEVIEW_TAKEN. After SCALEVIEW_OK it is a registry that the caller closes;
+ * `answer->length` is its number of types, `answer->at` is where it ends, and `answer->from` is the version of the metadata,
+ * or 0 without `metadata`. Otherwise the call returns SCALEVIEW_MEMORY or a code of
  * SCALEVIEW_REGISTRY_*, and `registry` stays null. */
 uint32_t scaleview_open(const uint8_t *bytes, size_t length, bool metadata, scaleview_registry *registry,
                         scaleview_answer *answer);
@@ -151,6 +155,13 @@ uint32_t scaleview_finish(scaleview_session *session, uint8_t *out, size_t room,
 
 /* Frees a session, sets it to null and returns SCALEVIEW_OK, or SCALEVIEW_NO_HANDLE if it is null. */
 uint32_t scaleview_free(scaleview_session *session);
+
+/* Writes the name of a code, such as "Truncated", to the front of `out`: ASCII of `answer->length` bytes, at most 18, without
+ * a terminating 0. A number that is no code has no byte. Otherwise it returns SCALEVIEW_NO_ROOM, and `out` is unchanged. */
+uint32_t scaleview_reason(uint32_t code, uint8_t *out, size_t room, scaleview_answer *answer);
+
+/* Returns the version of the library, which is SCALEVIEW_VERSION if this header is its own. */
+uint32_t scaleview_version(void);
 
 #ifdef __cplusplus
 }

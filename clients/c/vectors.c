@@ -84,27 +84,20 @@ static uint64_t number_of(struct text column) {
     return number;
 }
 
-static const char *const registry_reasons[] = {
-    "Truncated",    "BadUtf8",      "CompactNotShortest", "CompactTooLarge", "BadOption",    "BadDefinition",
-    "BadPrimitive", "IdOutOfPlace", "NotMetadata",        "WrongVersion",    "TrailingBytes"};
-static const char *const value_reasons[] = {
-    "Truncated",     "BadBool",  "BadChar",       "BadUtf8",     "CompactNotShortest", "CompactTooLarge", "NoSuchVariant",
-    "TooDeep",       "NoFiniteValue", "BitSequence", "BadCompact", "TooLong", "TrailingBytes"};
-
 /* What a call answered, in the words of the tables. */
 static struct text told(scaleview_answer answer, char line[128]) {
     unsigned long long at = answer.at;
     uint32_t code = answer.code;
-    if (code >= SCALEVIEW_VALUE_TRUNCATED && code <= SCALEVIEW_VALUE_TRAILING_BYTES)
-        snprintf(line, 128, "%s at %llu", value_reasons[code - SCALEVIEW_VALUE_TRUNCATED], at);
-    else if (code >= SCALEVIEW_REGISTRY_TRUNCATED && code <= SCALEVIEW_REGISTRY_TRAILING_BYTES)
-        snprintf(line, 128, "%s at %llu", registry_reasons[code - SCALEVIEW_REGISTRY_TRUNCATED], at);
-    else if (code == SCALEVIEW_REGISTRY_UNKNOWN_REFERENCE)
-        snprintf(line, 128, "UnknownType %llu in type %u", at, answer.from);
-    else if (code == SCALEVIEW_UNKNOWN_TYPE)
-        snprintf(line, 128, "UnknownType");
-    else if (code == SCALEVIEW_LIMIT_OUT_OF_RANGE)
-        snprintf(line, 128, "LimitOutOfRange");
+    scaleview_answer named;
+    uint8_t name[18];
+    scaleview_reason(code, name, sizeof name, &named);
+    int length = (int)named.length;
+    if (code == SCALEVIEW_REGISTRY_UNKNOWN_REFERENCE)
+        snprintf(line, 128, "%.*s %llu in type %u", length, name, at, answer.from);
+    else if (code == SCALEVIEW_UNKNOWN_TYPE || code == SCALEVIEW_LIMIT_OUT_OF_RANGE)
+        snprintf(line, 128, "%.*s", length, name);
+    else if (code >= SCALEVIEW_REGISTRY_TRUNCATED && length)
+        snprintf(line, 128, "%.*s at %llu", length, name, at);
     else
         snprintf(line, 128, "code %u", code);
     return text_of(line);

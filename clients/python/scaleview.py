@@ -286,6 +286,18 @@ class Registry(_Owned):
         if _library.scaleview_open(data, len(data), metadata, owner.registry, answer) != _OK:
             _raise(answer)
         self._types: int = answer.length
+        self._end: int = answer.at
+        self._version: int = answer.from_
+
+    @property
+    def end(self) -> int:
+        """Where the registry ends, in bytes from the start of `data`."""
+        return self._end
+
+    @property
+    def version(self) -> int | None:
+        """The version of the metadata, or None for a registry that stands alone."""
+        return self._version or None
 
     def __len__(self) -> int:
         """Returns the number of types; they stand at the positions below that."""

@@ -285,6 +285,9 @@ class Handles(unittest.TestCase):
         for version in (14, 15):
             with Registry(b"meta" + bytes([version]) + U16 + b"\xff", metadata=True) as registry:
                 self.assertEqual(registry.type_line(0), '0 Sized u16 ""\n')
+                self.assertEqual((registry.version, registry.end), (version, 5 + len(U16)))
+        with Registry(U16) as registry:
+            self.assertEqual((registry.version, registry.end), (None, len(U16)))
         with self.assertRaises(Refused) as raised:
             Registry(b"meta\x10", metadata=True)
         self.assertEqual((raised.exception.reason, raised.exception.at), ("WrongVersion", 4))

@@ -44,6 +44,8 @@ impl Default for Limits {
 pub struct Registry {
     handle: Handle,
     len: u32,
+    end: u64,
+    version: u32,
 }
 
 // SAFETY: the header ties no handle to a thread. It allows one call at a time on a registry and its
@@ -56,7 +58,9 @@ impl Registry {
         let (mut handle, mut answer) = (Handle::NONE, Answer::default());
         // SAFETY: the slice and the two places are this call's, and the handle is none.
         match unsafe { raw::scaleview_open(bytes.as_ptr(), bytes.len(), metadata, &mut handle, &mut answer) } {
-            raw::OK => Ok(Registry { handle, len: answer.length as u32 }),
+            raw::OK => {
+                Ok(Registry { handle, len: answer.length as u32, end: answer.at, version: answer.from })
+            }
             _ => Err(Error::of(answer)),
         }
     }
@@ -80,6 +84,16 @@ impl Registry {
     /// Returns the number of types; they stand at the positions below that.
     pub fn len(&self) -> u32 {
         self.len
+    }
+
+    /// Returns where the registry ends, in bytes from the start of the input.
+    pub fn end(&self) -> u64 {
+        self.end
+    }
+
+    /// Returns the version of the metadata, or `None` for a registry that stands alone.
+    pub fn version(&self) -> Option<u32> {
+        (self.version != 0).then_some(self.version)
     }
 
     /// Returns whether it has no types.

@@ -236,7 +236,9 @@ fn the_numbers_stay() {
 fn metadata_of_both_versions_is_opened() {
     for version in [14, 15] {
         let bytes = [b"meta".as_slice(), &[version], U16, b"\xff"].concat();
-        assert_eq!(Registry::open_metadata(&bytes).unwrap().type_line(0), Ok("0 Sized u16 \"\"\n".to_string()));
+        let registry = Registry::open_metadata(&bytes).unwrap();
+        assert_eq!(registry.type_line(0), Ok("0 Sized u16 \"\"\n".to_string()));
+        assert_eq!((registry.version(), registry.end()), (Some(u32::from(bytes[4])), 12));
     }
     let refused = Registry::open_metadata(b"meta\x10").err();
     assert_eq!(refused, Some(Error::Registry { reason: RegistryReason::WrongVersion, at: 4 }));

@@ -1,7 +1,7 @@
 -- The registry that bytes hold, and why they hold none.
 use Rattle.std.specs.Prelude.{◌≡◌, ◌<◌, ℕ, List, [], ◌∷◌, length, drop, Option, Some, None, Ok, Err}
 use Rattle.std.specs.Prelude.{Bool, true, false, option_map, option_and_then}
-use Rattle.scale_core.specs.Read.{Read}
+use Rattle.scale_core.specs.Read.{Read, place}
 use Rattle.registry_core.specs.Answers.{FaultAnswers}
 use Rattle.registry_core.specs.Reading.{registry_at, metadata_at}
 use Rattle.registry_core.specs.declared.fault.RegistryFault.{RegistryFault}
@@ -32,6 +32,16 @@ types_of false bytes = alone (registry_at bytes)
 abbrev pub file_version : Bool → List ℕ → Option Version
 file_version true bytes = option_map (λ m. m.1) (in_front (metadata_at bytes))
 file_version false bytes = None
+
+-- where what is read ends, from the start of the input
+abbrev pub end_of : {E X : Type 0} → List ℕ → Read E X → Option ℕ
+end_of input (Ok x) = Some (place input x.1)
+end_of input (Err e) = None
+
+-- where the registry of such a file ends
+abbrev pub file_end : Bool → List ℕ → Option ℕ
+file_end true bytes = end_of bytes (metadata_at bytes)
+file_end false bytes = end_of bytes (registry_at bytes)
 
 abbrev pub unless_fault : Option (ℕ × ℕ) → List TypeInfo → Option (List TypeInfo)
 unless_fault None types = Some types

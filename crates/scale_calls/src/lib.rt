@@ -9,5 +9,5 @@ mod value;
 
 pub use lines::{push_type_lines, type_line, version_line};
 pub use refusal::{RegistryRefusal, UnknownReference, ValueRefusal};
-pub use registry::open_registry;
+pub use registry::{OpenedRegistry, open_registry};
 pub use value::{read_value, value_text};

@@ -3,33 +3,45 @@
 ghost use Rattle.std.specs.Prelude.{◌≡◌, Some, IfOk, IfErr};
 ghost use Rattle.graph_core.specs.References.{first_fault};
 ghost use Rattle.scale_calls.specs.Opened.{RefusesCheck, RefusesRegistry, RefusesTypes, checked_of};
-ghost use Rattle.scale_calls.specs.Opened.{types_of, unless_fault, file_version};
+ghost use Rattle.scale_calls.specs.Opened.{file_end, file_version, types_of, unless_fault};
 
 use crate::refusal::RegistryRefusal;
 use registry_core::{Registry, Version, read_metadata, read_registry};
 use std::alloc::Global;
 use widths_core::Checked;
 
-/// Reads the registry that all the bytes spell or, in metadata, the one after the prefix, with the
-/// metadata's version.
+/// A checked registry, and what its bytes were.
+#[derive(Drop)]
+pub struct OpenedRegistry {
+    /// The registry.
+    pub checked: Checked,
+    /// The metadata's version, or `None` if the registry stands alone.
+    pub version: Option<Version>,
+    /// Where the registry ends, in bytes from the start of the input.
+    pub end: usize,
+}
+
+/// Reads the registry that all the bytes spell or, in metadata, the one after the prefix. Returns
+/// it with the metadata's version and where it ends.
 fn registry_of(
     alloc: Global,
     metadata: bool,
     bytes: &[u8],
-) -> Result<(Registry, Option<Version>), RegistryRefusal>
+) -> Result<(Registry, Option<Version>, usize), RegistryRefusal>
     ensures ok { IfOk result (λ x. types_of metadata bytes.now ≡ Some x.0) }
     ensures version { IfOk result (λ x. file_version metadata bytes.now ≡ x.1) }
+    ensures end { IfOk result (λ x. file_end metadata bytes.now ≡ Some x.2) }
     ensures err { IfErr result (RefusesTypes metadata bytes.now) }
 {
     if metadata {
-        let (registry, _, version) = read_metadata(alloc, bytes)?;
-        return Ok((registry, Some(version)));
+        let (registry, end, version) = read_metadata(alloc, bytes)?;
+        return Ok((registry, Some(version), end));
     }
-    let (registry, len) = read_registry(alloc, bytes)?;
-    if len < bytes.len() {
-        return Err(RegistryRefusal::TrailingBytes(len as u64));
+    let (registry, end) = read_registry(alloc, bytes)?;
+    if end < bytes.len() {
+        return Err(RegistryRefusal::TrailingBytes(end as u64));
     }
-    Ok((registry, None))
+    Ok((registry, None, end))
 }
 
 /// Checks the references of a registry.
@@ -45,7 +57,7 @@ fn checked(alloc: Global, registry: Registry) -> Result<Checked, RegistryRefusal
 }
 
 /// Reads and checks the registry that all the bytes hold. In metadata it is the one after the
-/// prefix, with the metadata's version; what follows it is not read.
+/// prefix; what follows it is not read.
 ///
 /// # Errors
 ///
@@ -60,11 +72,16 @@ pub fn open_registry(
     alloc: Global,
     metadata: bool,
     bytes: &[u8],
-) -> Result<(Checked, Option<Version>), RegistryRefusal>
-    ensures ok { IfOk result (λ x. checked_of metadata bytes.now ≡ Some x.0.types) }
-    ensures version { IfOk result (λ x. file_version metadata bytes.now ≡ x.1) }
+) -> Result<OpenedRegistry, RegistryRefusal>
+    ensures ok { IfOk result (λ x. checked_of metadata bytes.now ≡ Some x.checked.types) }
+    ensures version { IfOk result (λ x. file_version metadata bytes.now ≡ x.version) }
+    ensures end { IfOk result (λ x. file_end metadata bytes.now ≡ Some x.end) }
     ensures err { IfErr result (RefusesRegistry metadata bytes.now) }
 {
-    let (registry, version) = registry_of(alloc, metadata, bytes)?;
-    Ok((checked(alloc, registry)?, version))
+    let (registry, version, end) = registry_of(alloc, metadata, bytes)?;
+    Ok(OpenedRegistry {
+        checked: checked(alloc, registry)?,
+        version,
+        end,
+    })
 }

@@ -49,9 +49,9 @@ fn types_text<R: ReadOnce>(
     ensures quiet { IsErrOf result Refusal.RegistryDevice
         ⊎ (registry.new.failed ≡ registry.old.failed) }
 {
-    let (checked, version) = read_types(alloc, metadata, registry)?;
-    let mut text = version_line(alloc, version)?;
-    push_type_lines(alloc, &mut text, &checked)?;
+    let opened = read_types(alloc, metadata, registry)?;
+    let mut text = version_line(alloc, opened.version)?;
+    push_type_lines(alloc, &mut text, &opened.checked)?;
     Ok(text)
 }
 

@@ -10,20 +10,20 @@ ghost use Rattle.scale_tool.specs.Reported.{FaultsRegistry, FaultsType};
 
 use crate::gathering::{GatherFault, gather_all};
 use crate::refusal::Refusal;
-use registry_core::{TypeId, Version};
-use scale_calls::{RegistryRefusal, open_registry};
+use registry_core::TypeId;
+use scale_calls::{OpenedRegistry, RegistryRefusal, open_registry};
 use scale_core::{ReadOnce, Source};
 use std::alloc::Global;
 use widths_core::Checked;
 
-/// Reads and checks the registry that all the bytes hold, with the metadata's version.
+/// Reads and checks the registry that all the bytes hold.
 fn checked_registry(
     alloc: Global,
     metadata: bool,
     bytes: &[u8],
-) -> Result<(Checked, Option<Version>), RegistryRefusal>
-    ensures ok { IfOk result (λ x. checked_of metadata bytes.now ≡ Some x.0.types) }
-    ensures version { IfOk result (λ x. file_version metadata bytes.now ≡ x.1) }
+) -> Result<OpenedRegistry, RegistryRefusal>
+    ensures ok { IfOk result (λ x. checked_of metadata bytes.now ≡ Some x.checked.types) }
+    ensures version { IfOk result (λ x. file_version metadata bytes.now ≡ x.version) }
     ensures err { IfErr result (λ e. status_of_registry e ≡ 1 →
         checked_of metadata bytes.now ≡ None) }
     ensures refuses { IfErr result (RefusesRegistry metadata bytes.now) }
@@ -31,16 +31,16 @@ fn checked_registry(
     open_registry(alloc, metadata, bytes)
 }
 
-/// Reads and checks the registry of the source, with the metadata's version.
+/// Reads and checks the registry of the source.
 pub(crate) fn read_types<R: ReadOnce>(
     alloc: Global,
     metadata: bool,
     source: &mut Source<R>,
-) -> Result<(Checked, Option<Version>), Refusal>
+) -> Result<OpenedRegistry, Refusal>
     ensures ok { IfOk result (λ x. IfSome (R.remaining source.old.device)
-        (λ bytes. checked_of metadata bytes ≡ Some x.0.types)) }
-    ensures version { IfOk result
-        (λ x. IfSome (R.remaining source.old.device) (λ bytes. file_version metadata bytes ≡ x.1)) }
+        (λ bytes. checked_of metadata bytes ≡ Some x.checked.types)) }
+    ensures version { IfOk result (λ x. IfSome (R.remaining source.old.device)
+        (λ bytes. file_version metadata bytes ≡ x.version)) }
     ensures refused { IfErr result (λ e. IsRejected e →
         IfSome (R.remaining source.old.device) (λ bytes. checked_of metadata bytes ≡ None)) }
     ensures faults { IfErr result (FaultsRegistry metadata (R.remaining source.old.device)) }
@@ -89,6 +89,6 @@ pub(crate) fn read_types_with<R: ReadOnce>(
     ensures quiet { IsErrOf result Refusal.RegistryDevice
         ⊎ (source.new.failed ≡ source.old.failed) }
 {
-    let (checked, _) = read_types(alloc, metadata, source)?;
-    with_position(checked, id)
+    let opened = read_types(alloc, metadata, source)?;
+    with_position(opened.checked, id)
 }

@@ -13,13 +13,14 @@ use Rattle.decode_core.specs.declared.decoder.Progress.{Progress}
 use Rattle.decode_core.specs.declared.fault.DecodeFault.{DecodeFault}
 use Rattle.decode_core.specs.declared.fault.OpenFault.{OpenFault}
 use Rattle.scale_calls.specs.Lines.{type_line}
-use Rattle.scale_calls.specs.Opened.{RefusesRegistry, checked_of}
+use Rattle.scale_calls.specs.Opened.{RefusesRegistry, checked_of, file_end, file_version}
 use Rattle.scale_calls.specs.Refused.{opening_refusal, value_refusal}
 use Rattle.scale_calls.specs.Values.{ShowsValue}
 use Rattle.scale_calls.specs.declared.refusal.RegistryRefusal.{RegistryRefusal}
 use Rattle.scale_calls.specs.declared.refusal.ValueRefusal.{ValueRefusal}
 use Rattle.scale_calls.specs.declared.refusal.ValueRefusal.TheVariants as value
-use Rattle.scaleview_c.specs.Codes.{counted, plain, progress_answer, registry_answer, text_answer}
+use Rattle.scaleview_c.specs.Codes.{counted, opened_answer, plain, progress_answer}
+use Rattle.scaleview_c.specs.Codes.{registry_answer, text_answer}
 use Rattle.scaleview_c.specs.Codes.{value_answer}
 use Rattle.scaleview_c.specs.declared.codes.Answer.{Answer}
 use Rattle.scaleview_c.specs.declared.resource.Resource.{Resource}
@@ -42,7 +43,8 @@ Leaves old new reported a = (new ≡ old) × (a ≡ reported)
 -- the registry that the bytes hold is after the handle; or nothing is, and it is reported why
 abbrev pub OpensRegistry : Bool → List ℕ → Option Resource → Answer → Type 0
 OpensRegistry metadata b (Some (held.Registry o)) a = (checked_of metadata b ≡ Some o.checked.types)
-    × (a ≡ counted 0 (length o.checked.types))
+    × ((end : ℕ) × (file_end metadata b ≡ Some end)
+    × (a ≡ opened_answer (file_version metadata b) end (length o.checked.types)))
 OpensRegistry metadata b (Some (held.Session s)) a = ⊥
 OpensRegistry metadata b None a = (e : RegistryRefusal) × RefusesRegistry metadata b e
     × (a ≡ registry_answer e)
@@ -58,10 +60,9 @@ OpensHandle None metadata b new a = OpensRegistry metadata b new a
 
 -- the same of a box, by what it holds
 abbrev pub OpensBox : {X : Type 0} → (X → Resource) → Bool → List ℕ →
-    Result (X × ℕ) RegistryRefusal →
+    Result (X × Answer) RegistryRefusal →
     Type 0
-OpensBox value_of metadata b (Ok x) =
-    OpensRegistry metadata b (Some (value_of x.0)) (counted 0 x.1)
+OpensBox value_of metadata b (Ok x) = OpensRegistry metadata b (Some (value_of x.0)) x.1
 OpensBox value_of metadata b (Err e) = RefusesRegistry metadata b e
 
 -- nothing is after the handle any more; or it stays, since a session has the registry, or since

@@ -1,7 +1,9 @@
 -- Answers as numbers.
-use Rattle.std.specs.Prelude.{ℕ, nat_le, if◌then◌else◌}
+use Rattle.std.specs.Prelude.{ℕ, nat_le, if◌then◌else◌, Option, Some, None}
+use Rattle.registry_core.specs.Bytes.{version_byte}
 use Rattle.registry_core.specs.declared.fault.RegistryReason.{RegistryReason}
 use Rattle.registry_core.specs.declared.fault.RegistryReason.TheVariants as registry
+use Rattle.registry_core.specs.declared.version.Version.{Version}
 use Rattle.machine_core.specs.declared.reason.DecodeReason.{DecodeReason}
 use Rattle.machine_core.specs.declared.reason.DecodeReason.TheVariants as reason
 use Rattle.decode_core.specs.declared.decoder.Progress.{Progress}
@@ -52,6 +54,16 @@ counted code length = record { code = code; from = 0; at = 0; length = length }
 -- a text of so many bytes, and memory with so much room: it stands there, or has no room
 abbrev pub text_answer : ℕ → ℕ → Answer
 text_answer len room = counted (if nat_le len room then 0 else 2) len
+
+-- an open registry: the version of its metadata, or 0 if it stands alone; where it ends; and how
+-- many types it has
+abbrev pub version_number : Option Version → ℕ
+version_number None = 0
+version_number (Some version) = version_byte version
+
+abbrev pub opened_answer : Option Version → ℕ → ℕ → Answer
+opened_answer version end types =
+    record { code = 0; from = version_number version; at = end; length = types }
 
 abbrev pub refused : ℕ → ℕ → Answer
 refused code at = record { code = code; from = 0; at = at; length = 0 }

@@ -1,4 +1,5 @@
 pub mod Calls
 pub mod Codes
+pub mod Names
 pub mod Kept
 pub mod Owned

@@ -2,12 +2,12 @@
 //! `clients/c/scaleview.h`, and never change.
 
 ghost use Rattle.std.specs.Prelude.{◌≡◌};
-ghost use Rattle.scaleview_c.specs.Codes.{counted, plain, progress_answer, refused};
+ghost use Rattle.scaleview_c.specs.Codes.{counted, opened_answer, plain, progress_answer, refused};
 ghost use Rattle.scaleview_c.specs.Codes.{registry_answer, registry_code, text_answer};
 ghost use Rattle.scaleview_c.specs.Codes.{value_answer, value_code};
 
 use decode_core::{DecodeReason, Progress};
-use registry_core::RegistryReason;
+use registry_core::{RegistryReason, Version};
 use scale_calls::{RegistryRefusal, ValueRefusal};
 
 /// The call succeeded.
@@ -32,9 +32,9 @@ pub const UNKNOWN_TYPE: u32 = 201;
 #[derive(Clone, Copy, Debug, PartialEq, Eq)]
 pub struct Answer {
     pub code: u32,
-    /// The position of the type that has an unknown reference.
+    /// The position of the type that has an unknown reference, or the version of metadata.
     pub from: u32,
-    /// The place of a refusal, in bytes.
+    /// The place of a refusal, or where a registry ends, in bytes.
     pub at: u64,
     /// The number of bytes of a text, of types, or of bytes of a piece that belong to the value.
     pub length: u64,
@@ -109,6 +109,21 @@ impl Answer {
         ensures { result ≡ text_answer len room }
     {
         Answer::counted(if len <= room { OK } else { NO_ROOM }, len as u64)
+    }
+
+    /// Returns the answer of an open registry of this many types, which ends at a place.
+    pub(crate) fn of_opened(version: Option<Version>, end: usize, types: usize) -> Answer
+        ensures { result ≡ opened_answer version end types }
+    {
+        Answer {
+            code: OK,
+            from: match version {
+                Some(version) => u32::from(version.number()),
+                None => 0,
+            },
+            at: end as u64,
+            length: types as u64,
+        }
     }
 
     /// Returns the answer of a refusal at a place.

@@ -7,6 +7,7 @@ mod codes;
 mod handle;
 mod keeper;
 mod lent;
+mod names;
 mod opened;
 mod registries;
 mod resource;

@@ -14,23 +14,28 @@ use crate::opened::Opened;
 use crate::resource::Resource;
 use crate::text::put;
 use json_core::json_to_slice;
-use scale_calls::{RegistryRefusal, ValueRefusal, open_registry, read_value, type_line};
+use scale_calls::{OpenedRegistry, RegistryRefusal, ValueRefusal};
+use scale_calls::{open_registry, read_value, type_line};
 use std::alloc::Global;
 use std::mem;
 use value_core::Limits;
 
-/// Opens the registry that the bytes hold, and returns its number of types.
+/// Opens the registry that the bytes hold, and returns the answer that reports it.
 fn opened(
     alloc: Global,
     metadata: bool,
     bytes: &[u8],
-) -> Result<(Box<Resource>, u64), RegistryRefusal>
+) -> Result<(Box<Resource>, Answer), RegistryRefusal>
     ensures { OpensBox (λ held. held.value) metadata bytes.now result }
 {
-    let (checked, _) = open_registry(alloc, metadata, bytes)?;
-    let types = checked.registry().types().len() as u64;
+    let OpenedRegistry {
+        checked,
+        version,
+        end,
+    } = open_registry(alloc, metadata, bytes)?;
+    let answer = Answer::of_opened(version, end, checked.registry().types().len());
     match Box::new(alloc, Resource::Registry(Opened::new(checked))) {
-        Ok(held) => Ok((held, types)),
+        Ok(held) => Ok((held, answer)),
         Err(_) => Err(RegistryRefusal::Memory),
     }
 }
@@ -54,9 +59,9 @@ pub extern "C" fn scaleview_open(
         return TAKEN;
     }
     match opened(alloc, metadata, bytes) {
-        Ok((held, types)) => {
+        Ok((held, opened)) => {
             *registry = handle_of(held);
-            *answer = Answer::counted(OK, types);
+            *answer = opened;
         }
         Err(refusal) => *answer = Answer::of_registry(refusal),
     }

@@ -3,8 +3,8 @@ use Rattle.std.proofs.lemmas.Result.{err_from_is_err_and}
 use Rattle.scale_tool.specs.declared.task.Job.TheVariants as job
 use Rattle.scale_tool.proofs.registry.read_types_with.Goals as goal
 
-pub returns-in_err-checked-clause-faults : goal.returns-in_err-checked-clause-faults
-returns-in_err-checked-clause-faults g c =
+pub returns-in_err-opened-clause-faults : goal.returns-in_err-opened-clause-faults
+returns-in_err-opened-clause-faults g c =
     let p = err_from_is_err_and c.from_residual.result c.from_residual.ensures.1 in
     rw (p.1, p.2) (λ hex depth v.
-    c.in_err-checked.ensures.faults (job.Decode c.args.id c.args.metadata hex depth) v refl)
+    c.in_err-opened.ensures.faults (job.Decode c.args.id c.args.metadata hex depth) v refl)

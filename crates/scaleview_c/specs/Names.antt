@@ -1,0 +1,45 @@
+-- The names of the codes.
+use Rattle.std.specs.Prelude.{ℕ, List, [], ◌∷◌, ◌-◌, codes, nat_le, if◌then◌else◌, slice_index_or}
+use Rattle.registry_core.specs.Names as registry
+use Rattle.registry_core.specs.declared.fault.RegistryReason.TheVariants as types
+use Rattle.machine_core.specs.Reasons as value
+use Rattle.machine_core.specs.declared.reason.DecodeReason.TheVariants as reason
+
+-- the codes from 0 on
+abbrev pub calls : List (List ℕ)
+calls = codes "Ok" ∷ codes "More" ∷ codes "NoRoom" ∷ codes "OutOfMemory" ∷ codes "Lent"
+    ∷ codes "NoHandle" ∷ codes "Taken" ∷ []
+
+-- those from 101 on: the reasons of a registry, and two more
+abbrev pub of_registry : List (List ℕ)
+of_registry = registry.reason_name types.Truncated ∷ registry.reason_name types.BadUtf8
+    ∷ registry.reason_name types.CompactNotShortest ∷ registry.reason_name types.CompactTooLarge
+    ∷ registry.reason_name types.BadOption ∷ registry.reason_name types.BadDefinition
+    ∷ registry.reason_name types.BadPrimitive ∷ registry.reason_name types.IdOutOfPlace
+    ∷ registry.reason_name types.NotMetadata ∷ registry.reason_name types.WrongVersion
+    ∷ codes "TrailingBytes" ∷ codes "UnknownType" ∷ []
+
+-- those from 201 on
+abbrev pub of_opening : List (List ℕ)
+of_opening = codes "UnknownType" ∷ codes "LimitOutOfRange" ∷ []
+
+-- those from 301 on: the reasons of a value, and one more
+abbrev pub of_value : List (List ℕ)
+of_value = value.reason_name reason.Truncated ∷ value.reason_name reason.BadBool
+    ∷ value.reason_name reason.BadChar ∷ value.reason_name reason.BadUtf8
+    ∷ value.reason_name reason.CompactNotShortest ∷ value.reason_name reason.CompactTooLarge
+    ∷ value.reason_name reason.NoSuchVariant ∷ value.reason_name reason.TooDeep
+    ∷ value.reason_name reason.NoFiniteValue ∷ value.reason_name reason.BitSequence
+    ∷ value.reason_name reason.BadCompact ∷ value.reason_name reason.TooLong
+    ∷ codes "TrailingBytes" ∷ []
+
+-- the name of a code; what is no code has none
+abbrev pub code_name : ℕ → List ℕ
+code_name code = if nat_le code 6 then slice_index_or calls code []
+    else if nat_le code 100 then []
+    else if nat_le code 112 then slice_index_or of_registry (code - 101) []
+    else if nat_le code 200 then []
+    else if nat_le code 202 then slice_index_or of_opening (code - 201) []
+    else if nat_le code 300 then []
+    else if nat_le code 313 then slice_index_or of_value (code - 301) []
+    else []

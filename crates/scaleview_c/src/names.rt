@@ -1,0 +1,90 @@
+//! The names of the codes, and the version of the library.
+
+ghost use Rattle.std.specs.Prelude.{◌≡◌};
+ghost use Rattle.scaleview_c.specs.Calls.{Writes};
+ghost use Rattle.scaleview_c.specs.Names.{code_name};
+
+use crate::codes::Answer;
+use crate::text::put;
+
+/// The version of the library: ten thousand times the major number, and a hundred times the minor
+/// one, and the patch number.
+const VERSION: u32 = 100;
+
+/// The names of the codes from 0 on.
+const CALLS: [&str; 7] = [
+    "Ok",
+    "More",
+    "NoRoom",
+    "OutOfMemory",
+    "Lent",
+    "NoHandle",
+    "Taken",
+];
+
+/// The names of the codes from 101 on, which say why bytes hold no registry.
+const REGISTRY: [&str; 12] = [
+    "Truncated",
+    "BadUtf8",
+    "CompactNotShortest",
+    "CompactTooLarge",
+    "BadOption",
+    "BadDefinition",
+    "BadPrimitive",
+    "IdOutOfPlace",
+    "NotMetadata",
+    "WrongVersion",
+    "TrailingBytes",
+    "UnknownType",
+];
+
+/// The names of the codes from 201 on, which say why no value is begun.
+const OPENING: [&str; 2] = ["UnknownType", "LimitOutOfRange"];
+
+/// The names of the codes from 301 on, which say why bytes hold no value.
+const VALUE: [&str; 13] = [
+    "Truncated",
+    "BadBool",
+    "BadChar",
+    "BadUtf8",
+    "CompactNotShortest",
+    "CompactTooLarge",
+    "NoSuchVariant",
+    "TooDeep",
+    "NoFiniteValue",
+    "BitSequence",
+    "BadCompact",
+    "TooLong",
+    "TrailingBytes",
+];
+
+/// Returns the name of a code, which is empty for a number that is no code.
+fn code_name(code: u32) -> &'static str
+    ensures { result.now ≡ code_name code }
+{
+    match code {
+        0..=6 => CALLS[code as usize],
+        101..=112 => REGISTRY[code as usize - 101],
+        201..=202 => OPENING[code as usize - 201],
+        301..=313 => VALUE[code as usize - 301],
+        _ => "",
+    }
+}
+
+/// Writes the name of a code.
+#[unsafe(no_mangle)]
+pub extern "C" fn scaleview_reason(code: u32, out: &mut [u8], answer: &mut Answer) -> u32
+    ensures name { Writes (code_name code) out.old out.new answer.new }
+    ensures code { result ≡ answer.new.code }
+{
+    *answer = put(out, code_name(code).as_bytes());
+    answer.code
+}
+
+/// Returns the version of the library.
+#[unsafe(no_mangle)]
+pub extern "C" fn scaleview_version() -> u32
+    ensures { result ≡ 100 }
+{
+    VERSION
+}
