@@ -54,7 +54,7 @@ module _ {M : Type 1} {𝓤 : Ura M} {𝓛 : Logic 𝓤} {K : Type 0} {Γ : List
       fpack t (Valss (RawPtr ∷ [])) (within (shape handle.the_type) (null_ptr, tt) (null_word ∷ []))
       (vnull ∷ [], tt) $ fjoin t $ s)
 
-  -- what is owned is after a pointer that may be compared with null, and else the pointer is null
+  -- what is owned is behind a pointer that may be compared with null, and else the pointer is null
   either : K → (a : Global) → (p : Ptr) (v : Option R.Denot) →
       (v ≡ None → p ≡ null_ptr → Seq K 𝓛 Γ G)
       → ((b o : ℕ) (x : R.Denot) → v ≡ Some x → p ≡ block_ptr b o → Testable (block_ptr b o) →

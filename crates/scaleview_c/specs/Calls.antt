@@ -1,4 +1,4 @@
--- What each call does to what is after its handles, and what it reports.
+-- What each call does to what is behind its handles, and what it reports.
 use Rattle.std.specs.Prelude.{◌≡◌, ℕ, ◌⊎◌, List, [], ◌++◌, length, Bool, Option}
 use Rattle.std.specs.Prelude.{Some, None, MatchOption, Result, Ok, Err, string_bytes}
 use Rattle.grammar_core.specs.declared.limits.Limits.{Limits}
@@ -40,7 +40,7 @@ Leaves old new reported a = (new ≡ old) × (a ≡ reported)
 
 -- ---- registries
 
--- the registry that the bytes hold is after the handle; or nothing is, and it is reported why
+-- the registry that the bytes hold is behind the handle; or nothing is, and it is reported why
 abbrev pub OpensRegistry : Bool → List ℕ → Option Resource → Answer → Type 0
 OpensRegistry metadata b (Some (held.Registry o)) a = (checked_of metadata b ≡ Some o.checked.types)
     × ((end : ℕ) × (file_end metadata b ≡ Some end)
@@ -49,11 +49,11 @@ OpensRegistry metadata b (Some (held.Session s)) a = ⊥
 OpensRegistry metadata b None a = (e : RegistryRefusal) × RefusesRegistry metadata b e
     × (a ≡ registry_answer e)
 
--- it is reported that the handle is not none, and what is after it stays
+-- it is reported that the handle is not none, and what is behind it stays
 abbrev pub Stays : Option Resource → Option Resource → Answer → Type 0
 Stays old new a = (new ≡ old) × (a ≡ plain 6)
 
--- the registry is opened after a handle that is none
+-- the registry is opened behind a handle that is none
 abbrev pub OpensHandle : Option Resource → Bool → List ℕ → Option Resource → Answer → Type 0
 OpensHandle (Some old) metadata b new a = Stays (Some old) new a
 OpensHandle None metadata b new a = OpensRegistry metadata b new a
@@ -65,7 +65,7 @@ abbrev pub OpensBox : {X : Type 0} → (X → Resource) → Bool → List ℕ �
 OpensBox value_of metadata b (Ok x) = OpensRegistry metadata b (Some (value_of x.0)) x.1
 OpensBox value_of metadata b (Err e) = RefusesRegistry metadata b e
 
--- nothing is after the handle any more; or it stays, since a session has the registry, or since
+-- nothing is behind the handle any more; or it stays, since a session has the registry, or since
 -- it is no registry
 abbrev pub ClosesRegistry : Option Resource → Option Resource → ℕ → Type 0
 ClosesRegistry (Some (held.Registry o)) new code = ((code ≡ 0) × (new ≡ None))
@@ -128,7 +128,7 @@ StartsBox value_of o id limits (Ok x) = IsSession o id limits (value_of x)
 StartsBox value_of o id limits (Err e) =
     ForbidsStart (opening_fault o.checked.types id limits) (value_answer e)
 
--- such a session is after the handle; or nothing is, and it is reported why
+-- such a session is behind the handle; or nothing is, and it is reported why
 abbrev pub StartsSession : Option Resource → ℕ → Limits → Option Resource → Answer → Type 0
 StartsSession (Some (held.Registry o)) id limits (Some (held.Session s)) a =
     IsStarted o id limits s.stage
@@ -139,7 +139,7 @@ StartsSession (Some (held.Registry o)) id limits None a =
 StartsSession (Some (held.Session s)) id limits new a = (new ≡ None) × (a ≡ plain 5)
 StartsSession None id limits new a = (new ≡ None) × (a ≡ plain 5)
 
--- the session is started after a handle that is none
+-- the session is started behind a handle that is none
 abbrev pub StartsHandle : Option Resource → Option Resource → ℕ → Limits → Option Resource →
     Answer → Type 0
 StartsHandle (Some old) registry id limits new a = Stays (Some old) new a
@@ -218,7 +218,7 @@ FinishesSession (Some (held.Registry o)) kept old new a = IsNone (Some (held.Reg
     × (new ≡ old)
 FinishesSession None kept old new a = IsNone None kept a × (new ≡ old)
 
--- nothing is after the handle any more, or the registry that was there
+-- nothing is behind the handle any more, or the registry that was there
 abbrev pub Frees : Option Resource → Option Resource → ℕ → Type 0
 Frees (Some (held.Session s)) new code = (new ≡ None) × (code ≡ 0)
 Frees (Some (held.Registry o)) new code = (new ≡ Some (held.Registry o)) × (code ≡ 5)

@@ -9,7 +9,7 @@ use std::alloc::Global;
 use std::marker::Model;
 use std::ptr;
 
-/// A box after one pointer whose type C does not see, or null.
+/// A box behind one pointer whose type C does not see, or null.
 #[repr(C)]
 #[derive(Drop)]
 pub struct Handle {
@@ -58,7 +58,7 @@ impl Handle {
     }
 }
 
-/// Returns the box after a handle, or `None` if it is null.
+/// Returns the box behind a handle, or `None` if it is null.
 pub(crate) fn held_by(alloc: Global, handle: Handle) -> Option<Box<Resource>>
     ensures { MatchOption result (handle.value ≡ None) (λ held. handle.value ≡ Some held.value) }
 {

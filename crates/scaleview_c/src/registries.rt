@@ -14,8 +14,9 @@ use crate::opened::Opened;
 use crate::resource::Resource;
 use crate::text::put;
 use json_core::json_to_slice;
-use scale_calls::{OpenedRegistry, RegistryRefusal, ValueRefusal};
-use scale_calls::{open_registry, read_value, type_line};
+use scale_calls::{
+    OpenedRegistry, RegistryRefusal, ValueRefusal, open_registry, read_value, type_line,
+};
 use std::alloc::Global;
 use std::mem;
 use value_core::Limits;
@@ -40,7 +41,7 @@ fn opened(
     }
 }
 
-/// Opens the registry that the bytes hold, alone or in metadata, after a null handle.
+/// Opens the registry that the bytes hold, alone or in metadata, behind a null handle.
 #[unsafe(no_mangle)]
 pub extern "C" fn scaleview_open(
     alloc: Global,

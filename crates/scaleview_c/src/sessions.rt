@@ -41,7 +41,7 @@ fn started(
     }
 }
 
-/// Starts a session of a registry after a null handle, and counts it.
+/// Starts a session of a registry behind a null handle, and counts it.
 pub fn start_in<K: Keeper>(
     alloc: Global,
     keeper: &mut K,
@@ -72,7 +72,7 @@ pub fn start_in<K: Keeper>(
     }
 }
 
-/// Starts a value of the type at a position, after a null handle.
+/// Starts a value of the type at a position, behind a null handle.
 #[unsafe(no_mangle)]
 pub extern "C" fn scaleview_start(
     alloc: Global,

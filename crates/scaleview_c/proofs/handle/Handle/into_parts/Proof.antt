@@ -48,7 +48,7 @@ al = record {
   drops = impl [] tnil dnil;
 }
 
--- the code of this call keeps its contract, after null and after a box
+-- the code of this call keeps its contract, behind null and behind a box
 pub into_parts_spec : {M : Type 1} → statement M
 into_parts_spec 𝓤 𝓛 𝓜 𝓡 wired =
     let H = 𝓛.H in let 𝓣 = tables 𝓤 H 𝓜 𝓡 𝓡.env in let LZ = heap.the_row_laws in let c =

@@ -21,7 +21,7 @@ use Rattle.scaleview_c.specs.contracts.handle.Handle.none.Key.{name as #self}
 use Rattle.scaleview_c.proofs.handle.Handle.none.Statement.{statement}
 use Rattle.scaleview_c.proofs.handle.Handle.none.Code as code
 
--- the code of this call keeps its contract: after the handle there is nothing
+-- the code of this call keeps its contract: behind the handle there is nothing
 pub none_spec : {M : Type 1} → statement M
 none_spec 𝓤 𝓛 𝓜 𝓡 wired =
     let H = 𝓛.H in let 𝓣 = tables 𝓤 H 𝓜 𝓡 𝓡.env in let c = clauses 𝓛 𝓜.mem 𝓡.returns in let fn =

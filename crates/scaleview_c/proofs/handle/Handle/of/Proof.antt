@@ -29,7 +29,7 @@ use Rattle.scaleview_c.specs.contracts.handle.Handle.of.Key.{name as #self}
 use Rattle.scaleview_c.proofs.handle.Handle.of.Statement.{statement}
 use Rattle.scaleview_c.proofs.handle.Handle.of.Code as code
 
--- the code of this call keeps its contract: after the handle there is what the parts held
+-- the code of this call keeps its contract: behind the handle there is what the parts held
 pub of_spec : {M : Type 1} → statement M
 of_spec 𝓤 𝓛 𝓜 𝓡 wired =
     let H = 𝓛.H in let 𝓣 = tables 𝓤 H 𝓜 𝓡 𝓡.env in let LZ = heap.the_row_laws in let c =

@@ -34,7 +34,7 @@ use Rattle.scaleview_c.specs.contracts.lent.Lent.get.Key.{name as #self}
 use Rattle.scaleview_c.proofs.lent.Lent.get.Statement.{statement}
 use Rattle.scaleview_c.proofs.lent.Lent.get.Code as code
 
--- the code of this call keeps its contract, after null and after what is lent
+-- the code of this call keeps its contract, behind null and behind what is lent
 pub get_spec : {M : Type 1} → statement M
 get_spec 𝓤 𝓛 𝓜 𝓡 wired =
     let H = 𝓛.H in let 𝓣 = tables 𝓤 H 𝓜 𝓡 𝓡.env in let c = clauses 𝓛 𝓜.mem 𝓡.returns in let fn =
