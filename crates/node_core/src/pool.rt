@@ -90,9 +90,9 @@ pub(crate) fn put_long<A: Allocator>(
     Ok(start)
 }
 
-/// Returns the integer whose sixteen bytes begin at a position.
+/// Returns the integer whose sixteen little-endian bytes begin at a position of the pool.
 #[inline(never)]
-pub(crate) fn long_at(pool: &[u8], start: usize) -> u128
+pub fn long_at(pool: &[u8], start: usize) -> u128
     requires { start + 16 ≤ length pool.now }
     ensures { result ≡ long_shown pool.now start }
 {

@@ -79,7 +79,7 @@ impl<'r, A: Allocator> Value<'r, A> {
 
     /// Returns the nodes, each before its children, and the pool of the bytes of their texts and
     /// long integers.
-    pub(crate) fn parts(&self) -> (&[Node], &[u8])
+    pub fn parts(&self) -> (&[Node], &[u8])
         ensures whole { IsWhole self.now.types result.1.now result.0.now }
         ensures same { seen self.now.types result.1.now result.0.now ≡ self.now }
         ensures fits { all_kept result.0.now ≤ length result.1.now }

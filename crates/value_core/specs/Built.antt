@@ -17,6 +17,7 @@ use Rattle.grammar_core.specs.declared.form.Next.TheVariants as next
 use Rattle.grammar_core.specs.Tree.{Branch, none}
 use Rattle.grammar_core.specs.Grammar.{Val}
 use Rattle.grammar_core.specs.Cells.{fields_part, list_part}
+use Rattle.grammar_core.specs.Spelled.{index_of}
 use Rattle.grammar_core.specs.Parts.{Part, each, first_of, how_many_left}
 use Rattle.grammar_core.specs.Preorder as head
 use Rattle.grammar_core.specs.Tree as tree
@@ -24,6 +25,7 @@ use Rattle.grammar_core.specs.Preorder.{Head, tree_with, tree_of}
 use Rattle.node_core.specs.Shown.{Seen, head_shown}
 use Rattle.grammar_core.specs.Begun.{BranchOpens}
 use Rattle.value_core.specs.Walked.{OpenPart, Walked, next_of, next_type, advanced, opened}
+use Rattle.value_core.specs.Opened.{next_shape}
 use Rattle.node_core.specs.declared.node.Node.{Node}
 
 -- a node with its type
@@ -167,6 +169,14 @@ with_found b None = b
 
 abbrev pub with_arm : Built → ℕ → Built
 with_arm b index = with_found b (arm_in (next_layout b) index)
+
+-- the arm at a position, of the index that it has, in a definition with such an arm
+abbrev pub with_index : Built → Option ℕ → Built
+with_index b (Some index) = with_arm b index
+with_index b None = b
+
+abbrev pub with_arm_at : Built → ℕ → Built
+with_arm_at b q = with_index b (index_of (next_shape b.walk) q)
 
 abbrev pub with_list : Built → ℕ → Built
 with_list b n = with_open b (head.branch tree.list n) (list_part (next_layout b) n)

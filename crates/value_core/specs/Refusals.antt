@@ -14,7 +14,9 @@ use Rattle.registry_core.specs.declared.primitive.Primitive.{Primitive}
 use Rattle.registry_core.specs.declared.primitive.Primitive.TheVariants as P
 use Rattle.registry_core.specs.declared.definition.Arm.{Arm}
 use Rattle.registry_core.specs.declared.type_info.TypeInfo.{TypeInfo}
-use Rattle.grammar_core.specs.Parts.{first_of}
+use Rattle.grammar_core.specs.Cells.{fields_part}
+use Rattle.grammar_core.specs.Parts.{first_of, how_many_left}
+use Rattle.grammar_core.specs.Spelled.{index_of}
 use Rattle.grammar_core.specs.declared.form.Form.{Form}
 use Rattle.grammar_core.specs.declared.form.Form.TheVariants as form
 use Rattle.grammar_core.specs.declared.form.Next.{Next}
@@ -25,6 +27,7 @@ use Rattle.widths_core.specs.declared.run_kind.RunKind.{RunKind}
 use Rattle.widths_core.specs.declared.run_kind.RunKind.TheVariants as kind
 use Rattle.value_core.specs.Built.{Built, Pieces, arm_in, next_layout}
 use Rattle.node_core.specs.Shown.{Seen}
+use Rattle.value_core.specs.Opened.{next_shape}
 use Rattle.value_core.specs.Walked.{OpenPart, next_of}
 use Rattle.value_core.specs.declared.build_fault.BuildFault.{BuildFault}
 use Rattle.value_core.specs.declared.build_fault.BuildFault.TheVariants as fault
@@ -165,6 +168,29 @@ suits_arm found _ = wrong
 
 abbrev pub judged_arm : Built → ℕ → Option BuildFault
 judged_arm b index = judged (suits_arm (arm_in (next_layout b) index)) b
+
+-- a composite or a tuple of so many fields or members
+abbrev pub suits_fields_of : Built → ℕ → Form → Option BuildFault
+suits_fields_of b n form.Fields = in_range (how_many_left (fields_part (next_layout b)) == n)
+suits_fields_of b n _ = wrong
+
+-- the first arm of an index is the one at a position, and has so many fields
+abbrev pub placed_fault : ℕ → ℕ → Option (ℕ × Arm) → Option BuildFault
+placed_fault q n (Some found) =
+    if found.0 == q then in_range (length found.1.fields == n) else Some fault.NoSuchVariant
+placed_fault q n None = Some fault.NoSuchVariant
+
+abbrev pub indexed_fault : Built → ℕ → ℕ → Option ℕ → Option BuildFault
+indexed_fault b q n (Some index) = placed_fault q n (arm_in (next_layout b) index)
+indexed_fault b q n None = Some fault.NoSuchVariant
+
+abbrev pub suits_arm_at : Option BuildFault → Form → Option BuildFault
+suits_arm_at placed form.Arm = placed
+suits_arm_at placed _ = wrong
+
+abbrev pub judged_arm_at : Built → ℕ → ℕ → Option BuildFault
+judged_arm_at b q n =
+    judged (suits_arm_at (indexed_fault b q n (index_of (next_shape b.walk) q))) b
 
 -- ---- a text or a run of bytes, whole or in pieces
 

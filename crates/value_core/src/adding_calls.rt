@@ -3,16 +3,18 @@
 ghost use Rattle.std.specs.Prelude.{◌≡◌};
 ghost use Rattle.grammar_core.specs.Preorder as head;
 ghost use Rattle.grammar_core.specs.Tree as tree;
-ghost use Rattle.value_core.specs.Built.{with_leaf, with_fields, with_arm, with_list};
+ghost use Rattle.value_core.specs.Built.{with_leaf, with_fields, with_arm};
+ghost use Rattle.value_core.specs.Built.{with_arm_at, with_list};
 ghost use Rattle.value_core.specs.Refusals.{Adds, judged, judged_arm, most_unsigned, most_signed};
 ghost use Rattle.value_core.specs.Refusals.{is_within, suits_char, suits_signed, suits_empty};
 ghost use Rattle.value_core.specs.Refusals.{suits_bool, suits_unsigned, suits_wide, suits_compact};
-ghost use Rattle.value_core.specs.Refusals.{suits_count, suits_fields, suits_list};
+ghost use Rattle.value_core.specs.Refusals.{judged_arm_at, suits_count, suits_fields};
+ghost use Rattle.value_core.specs.Refusals.{suits_fields_of, suits_list};
 
 use crate::build_fault::BuildFault;
 use crate::builder::Builder;
 use grammar_core::Form;
-use node_core::Leaf;
+use node_core::{Leaf, index_of};
 use registry_core::{IntegerWidth, Primitive, PrimitiveKind};
 use std::alloc::Allocator;
 
@@ -233,6 +235,52 @@ impl<'r, A: Allocator> Builder<'r, A> {
         if !self.raw.add_arm(index)? {
             return Err(BuildFault::NoSuchVariant);
         }
+        Ok(())
+    }
+
+    /// Adds a composite or a tuple of this many fields or members, which come next.
+    ///
+    /// # Errors
+    ///
+    /// Those of [`empty`](Self::empty), and `OutOfRange` if the type has another number of them.
+    #[tactic(auto, using(crate::proofs::Wanted::wanted_next, crate::proofs::Wanted::wanted_closed))]
+    pub fn fields_of(&mut self, count: u32) -> Result<(), BuildFault>
+        ensures { Adds (judged (suits_fields_of self.old count) self.old) (with_fields self.old)
+            self.old self.new result }
+    {
+        let Form::Fields = self.wanted()? else {
+            return Err(BuildFault::WrongKind);
+        };
+        if self.walk().fields().count != count {
+            return Err(BuildFault::OutOfRange);
+        }
+        Ok(self.raw.add_fields()?)
+    }
+
+    /// Adds a variant by the position of its arm, which has this many fields; they come next.
+    ///
+    /// # Errors
+    ///
+    /// Those of [`empty`](Self::empty), `NoSuchVariant` if no arm stands at the position or an
+    /// earlier arm has its index, and `OutOfRange` if the arm has another number of fields.
+    #[tactic(auto, using(crate::proofs::Wanted::wanted_next, crate::proofs::Wanted::wanted_closed))]
+    pub fn arm_at(&mut self, position: u32, count: u32) -> Result<(), BuildFault>
+        ensures { Adds (judged_arm_at self.old position count) (with_arm_at self.old position)
+            self.old self.new result }
+    {
+        let Form::Arm = self.wanted()? else {
+            return Err(BuildFault::WrongKind);
+        };
+        let walk = self.walk();
+        let index = index_of(walk.checked(), walk.ty(), position).ok_or(BuildFault::NoSuchVariant)?;
+        let (first, fields) = walk.arm(index).ok_or(BuildFault::NoSuchVariant)?;
+        if first != position {
+            return Err(BuildFault::NoSuchVariant);
+        }
+        if fields.count != count {
+            return Err(BuildFault::OutOfRange);
+        }
+        self.raw.add_arm(index)?;
         Ok(())
     }
 

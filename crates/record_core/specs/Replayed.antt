@@ -1,0 +1,134 @@
+-- Records as calls of a builder: what each adds, and why one is rejected.
+use Rattle.std.specs.Prelude.{◌≡◌, ◌⊎◌, ℕ, suc, ◌+◌, ◌^◌, ◌==◌, ◌&&◌, nat_lt, not, Bool, true}
+use Rattle.std.specs.Prelude.{false, List, [], ◌∷◌, length, Option, Some, None, Result, Ok, Err}
+use Rattle.std.specs.Prelude.{if◌then◌else◌}
+use Rattle.std.specs.Str.{is_utf8}
+use Rattle.std.specs.Str.Lossy.{utf8_valid_len}
+use Rattle.scale_core.specs.Number.{is_scalar}
+use Rattle.grammar_core.specs.Preorder as head
+use Rattle.grammar_core.specs.Preorder.{Head}
+use Rattle.grammar_core.specs.Tree as tree
+use Rattle.node_core.specs.Shown.{Seen}
+use Rattle.value_core.specs.Built.{Built, finished, with_arm_at, with_fields, with_leaf, with_list}
+use Rattle.registry_core.specs.declared.type_info.TypeInfo.{TypeInfo}
+use Rattle.value_core.specs.Walked.{start_of}
+use Rattle.value_core.specs.Refusals.{in_range, is_complete, judged, judged_arm_at, suits_bool}
+use Rattle.value_core.specs.Refusals.{suits_bytes, suits_char, suits_compact, suits_count}
+use Rattle.value_core.specs.Refusals.{suits_empty, suits_fields_of, suits_list, suits_signed}
+use Rattle.value_core.specs.Refusals.{suits_text, suits_unsigned, suits_wide, wrong}
+use Rattle.value_core.specs.declared.build_fault.BuildFault.{BuildFault}
+use Rattle.value_core.specs.declared.build_fault.BuildFault.TheVariants as fault
+use Rattle.record_core.specs.Records.{head_of, range_of}
+use Rattle.record_core.specs.declared.record.Record.{Record}
+use Rattle.record_core.specs.declared.replaying.RecordFault.{RecordFault}
+use Rattle.record_core.specs.declared.replaying.RecordFault.TheVariants as records
+
+-- the fault of a record by itself: a number that is out of range, a range that is not in the pool,
+-- bytes that are no text, or a kind that there is not
+abbrev pub scalar_fault : Record → Option BuildFault
+scalar_fault r =
+    if r.kind == 1 then in_range (not (nat_lt 1 r.low))
+    else if r.kind == 2 then in_range (is_scalar r.low)
+    else if r.kind == 6 then in_range (nat_lt r.low (2 ^ 32))
+    else None
+
+abbrev pub text_fault : List ℕ → Option BuildFault
+text_fault s = if is_utf8 s then None else Some (fault.BadText (utf8_valid_len s))
+
+abbrev pub pooled_fault : List ℕ → Record → Option BuildFault
+pooled_fault pool r =
+    if nat_lt (length pool) (r.low + r.high) then Some fault.OutOfRange
+    else if r.kind == 7 then text_fault (range_of pool r)
+    else if r.kind == 9 then in_range (r.high == 32)
+    else None
+
+abbrev pub own_fault : List ℕ → Record → Option BuildFault
+own_fault pool r =
+    if nat_lt r.kind 7 then scalar_fault r
+    else if nat_lt r.kind 10 then pooled_fault pool r
+    else if nat_lt r.kind 13 then None
+    else wrong
+
+-- what the builder says of the node
+abbrev pub judged_node : Head → Built → Option BuildFault
+judged_node (head.leaf tree.unit) b = judged suits_empty b
+judged_node (head.leaf (tree.bool x)) b = judged suits_bool b
+judged_node (head.leaf (tree.char c)) b = judged suits_char b
+judged_node (head.leaf (tree.unsigned n)) b = judged (suits_unsigned n) b
+judged_node (head.leaf (tree.signed z)) b = judged (suits_signed z) b
+judged_node (head.leaf (tree.compact n)) b = judged (suits_compact n) b
+judged_node (head.leaf (tree.count n)) b = judged suits_count b
+judged_node (head.leaf (tree.text s)) b = judged (suits_text s) b
+judged_node (head.leaf (tree.bytes s)) b = judged (suits_bytes s) b
+judged_node (head.leaf (tree.wide s)) b = judged suits_wide b
+judged_node (head.branch tree.fields n) b = judged (suits_fields_of b n) b
+judged_node (head.branch (tree.arm q) n) b = judged_arm_at b q n
+judged_node (head.branch tree.list n) b = judged (suits_list n) b
+
+-- its own fault is the first
+abbrev pub first_fault : Option BuildFault → Option BuildFault → Option BuildFault
+first_fault (Some f) later = Some f
+first_fault None later = later
+
+abbrev pub record_fault : List ℕ → Record → Built → Option BuildFault
+record_fault pool r b = first_fault (own_fault pool r) (judged_node (head_of pool r) b)
+
+-- the value with the node
+abbrev pub with_node : Head → Built → Built
+with_node (head.leaf l) b = with_leaf b (head.leaf l)
+with_node (head.branch tree.fields n) b = with_fields b
+with_node (head.branch (tree.arm q) n) b = with_arm_at b q
+with_node (head.branch tree.list n) b = with_list b n
+
+abbrev pub with_record : List ℕ → Record → Built → Built
+with_record pool r b = with_node (head_of pool r) b
+
+-- ---- all records, one after the other
+
+-- no node yet of a value of this type
+abbrev pub start_with : List TypeInfo → ℕ → ℕ → Built
+start_with types root depth = record {
+  ty = root;
+  walk = start_of types root depth;
+  entries = [];
+  run = None;
+  turns = 0;
+}
+
+abbrev pub one_later : Result Built (ℕ × BuildFault) → Result Built (ℕ × BuildFault)
+one_later (Ok b) = Ok b
+one_later (Err e) = Err (suc e.0, e.1)
+
+abbrev pub unless_fault : Option BuildFault → Result Built (ℕ × BuildFault) →
+    Result Built (ℕ × BuildFault)
+unless_fault None later = one_later later
+unless_fault (Some f) later = Err (0, f)
+
+-- the value with the nodes of all records, or the first that is rejected, by its position
+abbrev pub replay : List ℕ → List Record → Built → Result Built (ℕ × BuildFault)
+replay pool [] b = Ok b
+replay pool (r ∷ rs) b =
+    unless_fault (record_fault pool r b) (replay pool rs (with_record pool r b))
+
+-- the value, if no node is missing; what is missing is reported at the end of the records
+abbrev pub ended_at : ℕ → Bool → Built → Result Seen (ℕ × BuildFault)
+ended_at n true b = Ok (finished b)
+ended_at n false b = Err (n, fault.UnfinishedValue)
+
+abbrev pub ended : ℕ → Result Built (ℕ × BuildFault) → Result Seen (ℕ × BuildFault)
+ended n (Ok b) = ended_at n (is_complete b) b
+ended n (Err e) = Err e
+
+-- the value, or which record is rejected and why, unless an allocation failed
+abbrev pub GivesValue : Result Seen (ℕ × BuildFault) → Result Seen RecordFault → Type 0
+GivesValue wanted (Ok v) = wanted ≡ Ok v
+GivesValue wanted (Err (records.Record at reason)) =
+    (wanted ≡ Err (at, reason)) ⊎ (reason ≡ fault.OutOfMemory)
+GivesValue wanted (Err (records.Open reason)) = reason ≡ fault.OutOfMemory
+
+-- the type and the depth are judged first
+abbrev pub ReadsRecords : Option BuildFault → Result Seen (ℕ × BuildFault) →
+    Result Seen RecordFault → Type 0
+ReadsRecords None wanted r = GivesValue wanted r
+ReadsRecords (Some f) wanted (Err (records.Open reason)) = reason ≡ f
+ReadsRecords (Some f) wanted _ = ⊥

@@ -1,0 +1,10 @@
+//! Values as records: numbers in the order of the nodes, beside a pool of bytes.
+#![tactic(auto)]
+
+mod record;
+mod replaying;
+mod writing;
+
+pub use record::Record;
+pub use replaying::{RecordFault, value_of_records};
+pub use writing::{Room, write_records};
