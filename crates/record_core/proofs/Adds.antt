@@ -1,7 +1,7 @@
 -- What a record adds, by its kind.
 use Rattle.std.proofs.Common.{◌≡◌, ℕ, ◌+◌, ◌≤◌, ◌<◌, Bool, true, false, List, length, refl, sym, subst, ap, ◌∙◌}
 use Rattle.std.proofs.Common.{arith}
-use Rattle.std.specs.Prelude.{Result, Err, ℤ, ◌^◌, nat_lt, FitsSigned}
+use Rattle.std.specs.Prelude.{Result, Err, ℤ, ◌^◌, nat_lt}
 use Rattle.std.specs.Int.{w128, cast_signed, cast_unsigned}
 use Rattle.std.proofs.Math.Facts.{sfits_to_z}
 use Rattle.std.proofs.lemmas.Int.{of_z-to_z}
@@ -19,7 +19,7 @@ use Rattle.value_core.specs.declared.build_fault.BuildFault.{BuildFault}
 use Rattle.value_core.specs.declared.build_fault.BuildFault.TheVariants as fault
 use Rattle.record_core.specs.Records.{number_of, range_of, scalar_head}
 use Rattle.record_core.specs.Replayed.{first_fault, judged_node, record_fault, scalar_fault}
-use Rattle.record_core.specs.Replayed.{text_fault, with_node, with_record}
+use Rattle.record_core.specs.Replayed.{with_node, with_record}
 use Rattle.record_core.specs.declared.record.Record.{Record}
 
 -- a range that ends within the pool is not beyond it
@@ -55,7 +55,7 @@ bad_text_rejected pool s r b n kind fits is invalid valid =
     (ap fault.BadText (valid ∙ ap utf8_valid_len is), refl)
 
 -- a number of 128 bits with a sign is the one that its bits spell
-signed_is : (n : ℕ) → n < 2 ^ 128 → cast_signed w128 n ≡ signed_from n
+pub signed_is : (n : ℕ) → n < 2 ^ 128 → cast_signed w128 n ≡ signed_from n
 signed_is n h = sym (ap signed_from (sym (word_back n h))
     ∙ signed_back (cast_signed w128 n) n _ (sfits_to_z (record { fits = h }))
     (sym (of_z-to_z w128 n h)) refl)

@@ -1,3 +1,5 @@
 pub mod Adds
-pub mod Puts
+pub mod Back
 pub mod Passed
+pub mod Puts
+pub mod Signed

@@ -2,9 +2,9 @@
 use Rattle.std.proofs.Common.{◌≡◌, ℕ, zero, suc, ◌+◌, ◌<◌, ◌⊎◌, Bool, true, false, List, [], ◌∷◌, ◌++◌}
 use Rattle.std.proofs.Common.{length, take, get_or, map, Option, Some, None, Ok, Err, refl, sym, ap, ◌∙◌}
 use Rattle.std.proofs.Common.{append-nil, append_assoc, arith, add-one, subst, inl, inr}
-use Rattle.std.specs.Prelude.{Result, ◌==◌, if◌then◌else◌, slice_get, option_map}
+use Rattle.std.specs.Prelude.{Result, ◌==◌, if◌then◌else◌}
 use Rattle.std.proofs.lemmas.Bool.{eqb-true}
-use Rattle.std.proofs.lemmas.List.{map-append, length-map, take_all}
+use Rattle.std.proofs.lemmas.List.{map-append, length-map}
 use Rattle.registry_core.specs.declared.definition.Arm.{Arm}
 use Rattle.registry_core.specs.declared.definition.Field.{Field}
 use Rattle.registry_core.specs.declared.type_info.TypeInfo.{TypeInfo}
@@ -18,20 +18,19 @@ use Rattle.grammar_core.specs.Tree as tree
 use Rattle.grammar_core.specs.declared.form.Form.{Form}
 use Rattle.grammar_core.specs.declared.form.Form.TheVariants as form
 use Rattle.node_core.specs.Shown.{Seen}
-use Rattle.value_core.specs.Built.{Built, Entry, arm_in, finished, next_layout, with_arm, with_found}
+use Rattle.value_core.specs.Built.{Built, Entry, arm_in, finished, next_layout, with_found}
 use Rattle.value_core.specs.Built.{with_index}
 use Rattle.value_core.specs.Opened.{next_shape}
 use Rattle.value_core.specs.Refusals.{Adds, Finishes, Opens, in_range, indexed_fault, is_complete}
-use Rattle.value_core.specs.Refusals.{judged, judged_arm_at, placed_fault, suits_arm_at}
+use Rattle.value_core.specs.Refusals.{placed_fault, suits_arm_at}
 use Rattle.value_core.specs.Refusals.{suits_fields_of, wanted_of}
 use Rattle.value_core.specs.declared.build_fault.BuildFault.{BuildFault}
 use Rattle.value_core.specs.declared.build_fault.BuildFault.TheVariants as fault
 use Rattle.record_core.specs.Records.{head_of, tree_read}
 use Rattle.record_core.specs.Replayed.{ReadsRecords, ended, ended_at, first_fault, judged_node}
-use Rattle.record_core.specs.Replayed.{one_later, own_fault, record_fault, replay, start_with}
+use Rattle.record_core.specs.Replayed.{own_fault, record_fault, replay, start_with}
 use Rattle.record_core.specs.Replayed.{unless_fault, with_node, with_record}
 use Rattle.record_core.specs.declared.record.Record.{Record}
-use Rattle.record_core.specs.declared.replaying.RecordFault.{RecordFault}
 use Rattle.record_core.specs.declared.replaying.RecordFault.TheVariants as records
 
 -- ---- one record after the other

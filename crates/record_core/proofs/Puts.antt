@@ -1,6 +1,6 @@
 -- The records of the first nodes of a list, and of one more.
 use Rattle.std.proofs.Common.{◌≡◌, ℕ, zero, suc, ◌+◌, ◌-◌, ◌<◌, ◌≤◌, List, [], ◌∷◌, ◌++◌, length}
-use Rattle.std.proofs.Common.{take, drop, get_or, map, refl, sym, ap, ◌∙◌, arith, length-append}
+use Rattle.std.proofs.Common.{take, drop, get_or, refl, sym, ap, ◌∙◌, arith, length-append}
 use Rattle.std.proofs.Common.{append_assoc, append-nil, slice_range, slice_set}
 use Rattle.std.proofs.lemmas.List.{map-append, length-map, take_more, take_more_set, drop-drop}
 use Rattle.std.proofs.lemmas.List.{drop-set-lt, take-append-drop, take_all, length-take}

@@ -3,7 +3,6 @@ use Rattle.std.specs.Prelude.{◌≡◌, ℕ, ◌+◌, ◌*◌, ◌/◌, ◌%◌
 use Rattle.std.specs.Prelude.{map, nat_lt, if◌then◌else◌, slice_range}
 use Rattle.std.specs.Int.{w128, cast_unsigned}
 use Rattle.scale_core.specs.Number.{bool_byte}
-use Rattle.registry_core.specs.declared.type_info.TypeInfo.{TypeInfo}
 use Rattle.grammar_core.specs.Cells.{Cell, cells}
 use Rattle.grammar_core.specs.Preorder as head
 use Rattle.grammar_core.specs.Preorder.{Head, child_count, tree_of}

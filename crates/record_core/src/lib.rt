@@ -1,6 +1,7 @@
 //! Values as records: numbers in the order of the nodes, beside a pool of bytes.
 #![tactic(auto)]
 
+pub mod laws;
 mod record;
 mod replaying;
 mod writing;

@@ -1,4 +1,4 @@
-use Rattle.std.proofs.Common.{rules, arith, refl}
+use Rattle.std.proofs.Common.{arith, refl}
 use Rattle.record_core.proofs.Adds.{signed_adds}
 use Rattle.record_core.proofs.replaying.add_scalar.Goals as goal
 

@@ -1,6 +1,5 @@
-use Rattle.std.proofs.Common.{rules, arith, ◌≡◌, Ok, ap, sym, ◌∙◌, take, length, inl, inr}
+use Rattle.std.proofs.Common.{arith, ◌≡◌, Ok, ap, sym, ◌∙◌, length, inl, inr}
 use Rattle.std.proofs.lemmas.List.{take_all}
-use Rattle.value_core.specs.Refusals.{build_opening_fault}
 use Rattle.record_core.specs.Replayed.{ended, replay, start_with}
 use Rattle.record_core.proofs.Passed.{added, failed, missing, opened, replay_next, replay_stop}
 use Rattle.record_core.proofs.Passed.{stopped, tree_is, whole}

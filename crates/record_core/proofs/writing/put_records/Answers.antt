@@ -1,4 +1,4 @@
-use Rattle.std.proofs.Common.{rules, arith, refl, length, ◌≡◌}
+use Rattle.std.proofs.Common.{rules, arith, refl, ◌≡◌}
 use Rattle.record_core.proofs.Puts.{next_fits, pool_stands, put_next, records_stand}
 use Rattle.record_core.proofs.writing.put_records.Goals as goal
 

@@ -1,0 +1,118 @@
+-- The records of a value, read back, are its tree.
+use Rattle.std.proofs.Common.{◌≡◌, ℕ, ◌+◌, ◌-◌, ◌*◌, ◌/◌, ◌%◌, ◌^◌, List, [], ◌∷◌, ◌++◌, length, map}
+use Rattle.std.proofs.Common.{take, drop, refl, sym, ap, ◌∙◌, arith, append_assoc, true, false}
+use Rattle.std.proofs.Common.{length-append, slice_range}
+use Rattle.std.specs.Prelude.{ℤ, FitsSigned}
+use Rattle.std.specs.Int.{w128, cast_unsigned}
+use Rattle.std.proofs.Math.Facts.{Fits-of_z}
+use Rattle.std.proofs.Math.Seq.{take-append_seam, drop-append_seam}
+use Rattle.std.proofs.lemmas.Int.{to_z-of_z}
+use Rattle.grammar_core.specs.Cells.{Cell}
+use Rattle.grammar_core.specs.Preorder as head
+use Rattle.grammar_core.specs.Preorder.{Head, all_preorder, preorder, tree_of, tree_of-preorder}
+use Rattle.grammar_core.specs.Tree as tree
+use Rattle.grammar_core.specs.Tree.{Tree, Trees, and, none}
+use Rattle.node_core.specs.Shown.{signed_from}
+use Rattle.node_core.proofs.CellsOf.{cells_preorder}
+use Rattle.record_core.specs.Records.{RecordsAreTree, head_of, nodes_of, pool_bytes, pool_of}
+use Rattle.record_core.specs.Records.{record_of, records_from}
+use Rattle.record_core.proofs.Adds.{signed_is}
+use Rattle.record_core.proofs.Signed.{AllFit, FitsLeaf, FitsTree, tree_fits}
+
+-- a signed integer of a node fits 128 bits
+abbrev FitsHead : Head → Type 0
+FitsHead (head.leaf l) = FitsLeaf l
+FitsHead (head.branch k n) = Unit {0}
+
+abbrev HeadsFit : List Head → Type 0
+HeadsFit [] = Unit {0}
+HeadsFit (h ∷ hs) = FitsHead h × HeadsFit hs
+
+heads_append : (as' bs : List Head) → HeadsFit as' → HeadsFit bs → HeadsFit (as' ++ bs)
+heads_append [] bs f g = g
+heads_append (a ∷ as') bs f g = (f.0, heads_append as' bs f.1 g)
+
+mutual
+  preorder_fits : (v : Tree) → FitsTree v → HeadsFit (preorder v)
+  preorder_fits (tree.leaf l) h = (h, tt)
+  preorder_fits (tree.branch k vs) h = (tt, all_preorder_fits vs h)
+
+  all_preorder_fits : (vs : Trees) → AllFit vs → HeadsFit (all_preorder vs)
+  all_preorder_fits none h = tt
+  all_preorder_fits (and v vs) h = heads_append (preorder v) (all_preorder vs)
+      (preorder_fits v h.0) (all_preorder_fits vs h.1)
+
+-- ---- one node
+
+-- what stands between a front and a rest
+between_is : (front s rest : List ℕ) (at : ℕ) → at ≡ length front →
+    slice_range (front ++ (s ++ rest)) at (at + length s) ≡ s
+between_is front s rest at e =
+    let long : at + length s - at ≡ length s = omega arith in
+    ap (λ (k : ℕ). take k (drop at (front ++ (s ++ rest)))) long
+    ∙ ap (λ (k : ℕ). take (length s) (drop k (front ++ (s ++ rest)))) e
+    ∙ ap (take (length s)) (drop-append_seam front (s ++ rest))
+    ∙ take-append_seam s rest
+
+-- the halves of a number are the number
+halves_are : (n : ℕ) → n % 2 ^ 64 + 2 ^ 64 * (n / 2 ^ 64) ≡ n
+halves_are n = omega arith
+
+-- the bits of a signed integer are the integer
+bits_are : (z : ℤ) → FitsSigned w128 z → signed_from (cast_unsigned w128 z) ≡ z
+bits_are z h = sym (signed_is (cast_unsigned w128 z) (Fits-of_z h).fits) ∙ to_z-of_z w128 z h
+
+-- a node is read back from its record, where its bytes stand in the pool
+head_back : (front rest : List ℕ) (at : ℕ) (c : Cell) → at ≡ length front → FitsHead c.head →
+    head_of (front ++ (pool_bytes c.head ++ rest)) (record_of at c) ≡ c.head
+head_back front rest at c e fits = by c.head fits where
+  by : (h : Head) → FitsHead h → head_of (front ++ (pool_bytes h ++ rest))
+      (record_of at (record { ty = c.ty; head = h; size = c.size })) ≡ h
+  by (head.leaf tree.unit) f = refl
+  by (head.leaf (tree.bool true)) f = refl
+  by (head.leaf (tree.bool false)) f = refl
+  by (head.leaf (tree.char x)) f = refl
+  by (head.leaf (tree.unsigned n)) f =
+      ap (λ (k : ℕ). head.leaf (tree.unsigned k)) (halves_are n)
+  by (head.leaf (tree.signed z)) f = ap (λ (y : ℤ). head.leaf (tree.signed y))
+      (ap signed_from (halves_are (cast_unsigned w128 z)) ∙ bits_are z f)
+  by (head.leaf (tree.compact n)) f =
+      ap (λ (k : ℕ). head.leaf (tree.compact k)) (halves_are n)
+  by (head.leaf (tree.count n)) f = refl
+  by (head.leaf (tree.text s)) f =
+      ap (λ (x : List ℕ). head.leaf (tree.text x)) (between_is front s rest at e)
+  by (head.leaf (tree.bytes s)) f =
+      ap (λ (x : List ℕ). head.leaf (tree.bytes x)) (between_is front s rest at e)
+  by (head.leaf (tree.wide s)) f =
+      ap (λ (x : List ℕ). head.leaf (tree.wide x)) (between_is front s rest at e)
+  by (head.branch tree.fields n) f = refl
+  by (head.branch (tree.arm q) n) f = refl
+  by (head.branch tree.list n) f = refl
+
+-- ---- all nodes
+
+abbrev bare : List Cell → List Head
+bare cs = map (λ (c : Cell). c.head) cs
+
+heads_back : (front : List ℕ) (at : ℕ) (cs : List Cell) → at ≡ length front →
+    HeadsFit (bare cs) →
+    map (head_of (front ++ pool_of cs)) (records_from at cs) ≡ bare cs
+heads_back front at [] e f = refl
+heads_back front at (c ∷ cs) e f =
+    let own = pool_bytes c.head in
+    let again : front ++ (own ++ pool_of cs) ≡ (front ++ own) ++ pool_of cs =
+    sym (append_assoc front own (pool_of cs)) in
+    let long : at + length own ≡ length (front ++ own) =
+    omega (arith, e, length-append front own) in
+    ap (λ (h : Head). h ∷ map (head_of (front ++ (own ++ pool_of cs)))
+    (records_from (at + length own) cs)) (head_back front (pool_of cs) at c e f.0)
+    ∙ ap (λ (hs : List Head). c.head ∷ hs)
+    (ap (λ (pool : List ℕ). map (head_of pool) (records_from (at + length own) cs)) again
+    ∙ heads_back (front ++ own) (at + length own) cs long f.1)
+
+pub records_are_tree : RecordsAreTree
+records_are_tree v h =
+    let same : bare (nodes_of v) ≡ preorder v.tree = cells_preorder v.types v.ty v.tree in
+    let fits = preorder_fits v.tree (tree_fits v.types v.ty v.tree h.0 h.1 h.2) in
+    ap tree_of (heads_back [] 0 (nodes_of v) refl (rw same fits) ∙ same)
+    ∙ tree_of-preorder v.tree
