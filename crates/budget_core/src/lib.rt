@@ -1,0 +1,6 @@
+//! An allocator that bounds how many bytes are allocated at once.
+#![tactic(auto)]
+
+mod budget;
+
+pub use budget::Budget;
