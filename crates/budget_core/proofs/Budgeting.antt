@@ -6,14 +6,14 @@ use seplogic.Ra.Ura.{Ura}
 use mir.Syntax.{Args, a_type, dnil, dcons}
 use mir.Val.{Val, vbool, vint, vptr, vunit}
 use base.Logic.{SProp, ent, sep, ex, guard, emp, id⊢}
-use base.Fml.{Lft, Share, ftrue, fsep, flft}
+use base.Fml.{Lft, Share, ftrue, fsep}
 use prog.Memory.{Memory, size, align, up}
 use prog.Routine.{Routine}
 use types.Logic.{Logic, sem}
 use contract.BorrowLft.{◌⊑◌}
 use contract.Monad.{Fun, fact, fact_i}
-use types.Kit.{‵, raw, ◌⊛◌, some, later, ◌$◌, ◌∵◌, !, qed, move, keep, use0, use1, split, join, pick}
-use types.Kit.{fjoin, feq_i, feq_l, flt_i, check, show, await, updating, now as at_once, done}
+use types.Kit.{‵, raw, ◌⊛◌, some, later, ◌$◌, ◌∵◌, !, qed, move, keep, use0, use1, split, join}
+use types.Kit.{pick, fjoin, feq_i, feq_l, flt_i, check, show, await, updating, now as at_once, done}
 use denote.Builtin.{u64, bool, unit, RefOf}
 use denote.Memory.{hidden_shr}
 use denote.Param.{bounded, param}
@@ -92,7 +92,7 @@ module _ (Z : Al) {M : Type 1} {𝓤 : Ura M} (𝓛 : Logic 𝓤) (at_mem : Memo
     abbrev pub Lent : SProp 𝓤
     Lent = sep 𝓤 (sem 𝓛 (hidden_shr (Left Z) κ₁ left place.0 place.1)) Tokens
 
-    -- the count that is shared and the tokens are what each of the two calls asks for
+    -- the count that is shared and the tokens are what a call that gives bytes back asks for
     pub returned_goes : κ₂ ⊑ Z.row.lives → bytes < 2 ^ 64 → ent 𝓤 Lent (Returned.pre at_returned)
     returned_goes lives few =
         qed 𝓛 (‵ (hidden_shr (Left Z) κ₁ left place.0 place.1) ∷ raw Tokens ∷ []) ∵
@@ -115,6 +115,7 @@ module _ (Z : Al) {M : Type 1} {𝓤 : Ura M} (𝓛 : Logic 𝓤) (at_mem : Memo
         await ! tt $ pick ! (λ r. split ! $ split ! $ move ! (1 ∷ []) $ feq_l !
         (λ e. at_once ! $ check ! (ap only e) $ keep ! (0 ∷ []) $ done !))
 
+    -- and what one that takes bytes asks for
     pub taken_goes : κ₂ ⊑ Z.row.lives → bytes < 2 ^ 64 → ent 𝓤 Lent (Taken.pre at_taken)
     taken_goes lives few =
         qed 𝓛 (‵ (hidden_shr (Left Z) κ₁ left place.0 place.1) ∷ raw Tokens ∷ []) ∵
@@ -129,7 +130,7 @@ module _ (Z : Al) {M : Type 1} {𝓤 : Ura M} (𝓛 : Logic 𝓤) (at_mem : Memo
     abbrev pub Told : Val → Bool → SProp 𝓤
     Told v is_it = guard 𝓤 (v ≡ vbool is_it) Tokens
 
-    -- and one that asked for bytes says too whether they were left
+    -- this one says too whether the bytes were left
     pub taken_gives : (v : Val) → ent 𝓤 (Taken.post at_taken v) (H.⇛ (ex 𝓤 (Told v)))
     taken_gives v =
         qed 𝓛 (raw (Taken.post at_taken v) ∷ []) ∵ updating ! $

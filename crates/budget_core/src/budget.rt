@@ -1,6 +1,6 @@
 //! A budget of bytes over another allocator.
 
-ghost use Rattle.std.specs.Prelude.{◌≡◌, ◌+◌, ◌^◌, ◌-◌, ◌<◌, MatchOption, min};
+ghost use Rattle.std.specs.Prelude.{IfOk, ◌≡◌, ◌+◌, ◌^◌, ◌-◌, ◌<◌, MatchOption, min};
 
 use std::alloc::{AllocError, Allocator};
 use std::cell::Cell;
@@ -8,9 +8,10 @@ use std::rc::Rc;
 
 /// An allocator that hands out no more than a number of bytes at once.
 ///
-/// It passes requests on to another allocator, and refuses those that would take more bytes than
-/// are left. A block that is freed gives its bytes back. All clones of a budget share what is left
-/// of it.
+/// It passes requests on to another allocator, and refuses those for more bytes than are left. A
+/// block that is freed gives its bytes back. All clones of a budget share what is left of it.
+///
+/// A collection that grows takes its new block before it frees the old one, so both count then.
 pub struct Budget<B: Allocator> {
     inner: B,
     left: Rc<Cell<u64>, B>,
@@ -24,8 +25,10 @@ impl<B: Allocator + Clone> Budget<B> {
     ///
     /// # Errors
     ///
-    /// `AllocError` if the allocation of the count fails.
-    pub fn new(alloc: B, bytes: u64) -> Result<Budget<B>, AllocError> {
+    /// `AllocError` if the allocation of the count fails, or a clone of `alloc`.
+    pub fn new(alloc: B, bytes: u64) -> Result<Budget<B>, AllocError>
+        ensures { IfOk result (λ budget. budget.inner ≡ alloc) }
+    {
         let left = Rc::new(alloc.clone()?, Cell::new(allowed(bytes)))?;
         Ok(Budget { inner: alloc, left })
     }
@@ -38,6 +41,8 @@ impl<B: Allocator> Drop for Budget<B> {
 }
 
 impl<B: Allocator + Clone> Clone for Budget<B> {
+    ghost is_clone = { λ budget copy. B.is_clone budget.inner copy.inner };
+
     fn clone(&self) -> Result<Budget<B>, AllocError> {
         let inner = self.inner.clone()?;
         let left = self.left.clone()?;

@@ -2,5 +2,7 @@
 #![tactic(auto)]
 
 mod budget;
+#[cfg(test)]
+mod tests;
 
 pub use budget::Budget;

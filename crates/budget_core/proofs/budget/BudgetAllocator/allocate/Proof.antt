@@ -46,8 +46,8 @@ use Rattle.std.proofs.alloc.Calls.{Al, seen, token, got, Answer, answer_val, Ans
 use Rattle.std.proofs.alloc.Calls.{Answer-Ok, Answer-err, takes_key, Takes, at_takes, Answered}
 use Rattle.std.proofs.alloc.Calls.{Takes-goes, Takes-gives, answers}
 use Rattle.std.proofs.alloc.Shapes.{after, front, arm_body}
-use Rattle.budget_core.proofs.Budgeting.{Whole, lent, at_its_type, inner_of, left_of, Taken, at_taken}
-use Rattle.budget_core.proofs.Budgeting.{taken_goes, taken_gives, Returned, at_returned}
+use Rattle.budget_core.proofs.Budgeting.{Whole, lent, at_its_type, inner_of, left_of, Taken}
+use Rattle.budget_core.proofs.Budgeting.{at_taken, taken_goes, taken_gives, Returned, at_returned}
 use Rattle.budget_core.proofs.Budgeting.{returned_goes, returned_gives}
 use Rattle.budget_core.proofs.budget.Budget.TheLaws.{the_row_laws}
 use Rattle.budget_core.proofs.budget.give_back.Met as returned_met

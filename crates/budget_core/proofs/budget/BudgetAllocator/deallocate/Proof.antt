@@ -5,7 +5,7 @@ use seplogic.Ra.Ura.{Ura}
 use mir.Syntax.{Ty, Fn}
 use mir.Val.{Val, vint, vptr, vunit}
 use mir.MapTy.{inst_fn}
-use base.Logic.{SProp, ent, sep, id⊢, never_e}
+use base.Logic.{SProp, ent, id⊢, never_e}
 use base.Fml.{Lft, Share, ffalse, ftrue, fsep, flft, froom}
 use prog.Memory.{Memory, size, align, capped}
 use prog.Routine.{Routine}
@@ -136,7 +136,8 @@ module _ (Z : Al) {M : Type 1} {𝓤 : Ura M} (𝓛 : Logic 𝓤) (at_mem : Memo
         (and_then ! (get ! refl) (and_then ! (get ! refl) (no_more !))) (λ u.
         use1 𝓛 (later (given (u ≡ vunit) (‵ (flft κ₁ q₁) ⊛ ‵ (flft κ₂ q₂) ⊛ ‵ ftrue)))
         (returned_gives Z 𝓛 at_mem run κ₁ κ₂ q₁ q₂ inside left self.now.left bytes u) $
-        await ! tt $ learn ! (λ eu. lands_as ! eu refl (tt, tt) $ split ! $ move ! (2 ∷ 0 ∷ 1 ∷ 3 ∷ []) $
+        await ! tt $ learn ! (λ eu. lands_as ! eu refl (tt, tt) $ split ! $
+        move ! (2 ∷ 0 ∷ 1 ∷ 3 ∷ []) $
         -- the inner allocator, the tokens of both lifetimes, and the block
         sets ! (addr ! (through ! refl (fld ! refl (stop !)))) refl (tt, tt) $
         -- the call
