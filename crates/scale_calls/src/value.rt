@@ -62,5 +62,5 @@ pub fn value_text(
         (job_of checked.now.types id limits) bytes.now result }
 {
     let value = read_value(alloc, checked, id, limits, bytes)?;
-    Ok(json_text(alloc, &value)?)
+    Ok(json_text(alloc, alloc, &value)?)
 }
