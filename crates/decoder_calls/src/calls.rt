@@ -92,7 +92,7 @@ pub fn front_of<'r, A: Allocator + Clone>(
 
 /// The value as JSON.
 pub fn shown<A: Allocator>(alloc: Global, value: &Value<'_, A>) -> Result<String, AllocError> {
-    json_text(alloc, value)
+    json_text(alloc, alloc, value)
 }
 
 /// The value as JSON, by its tree.

@@ -50,7 +50,7 @@ pub(crate) fn print_line(alloc: Global) -> Option<&'static str> {
 pub(crate) fn json_text_line(alloc: Global) -> Option<&'static str> {
     let checked = sample::checked(alloc)?;
     let value = sample::value(alloc, &checked)?;
-    Some(match json_text(alloc, &value) {
+    Some(match json_text(alloc, alloc, &value) {
         Ok(text) => line_where(text.as_str() == sample::TEXT, "json_text: the whole text\n"),
         Err(_) => "json_text: out of memory\n",
     })
@@ -60,7 +60,7 @@ pub(crate) fn json_to_slice_line(alloc: Global) -> Option<&'static str> {
     let checked = sample::checked(alloc)?;
     let value = sample::value(alloc, &checked)?;
     let mut buffer = [0u8; ROOM];
-    let answer = json_to_slice(alloc, &value, &mut buffer);
+    let answer = json_to_slice(alloc, alloc, &value, &mut buffer);
     let text = sample::TEXT.as_bytes();
     Some(match answer {
         Ok(len) => line_where(
@@ -90,7 +90,7 @@ pub(crate) fn value_text_line(alloc: Global) -> Option<&'static str> {
 
 /// Is the value shown by the sample's text?
 fn is_shown(alloc: Global, value: &Sampled<'_, Global>) -> bool {
-    match json_text(alloc, value) {
+    match json_text(alloc, alloc, value) {
         Ok(text) => text.as_str() == sample::TEXT,
         Err(_) => false,
     }

@@ -53,13 +53,14 @@ fn run_in_front(out: &mut [u8], bytes: &[u8]) -> usize
 /// returns its length in bytes. The rest of `out` is unchanged, and all of it if `out` is shorter.
 ///
 /// Of one text without an escape, or one run of bytes, it allocates nothing. Otherwise it makes the
-/// text first.
+/// text first, from `text_alloc`.
 ///
 /// # Errors
 ///
 /// `AllocError` if an allocation fails; `out` is unchanged.
-pub fn json_to_slice<A: Allocator>(
+pub fn json_to_slice<A: Allocator, B: Allocator + Clone>(
     alloc: Global,
+    text_alloc: B,
     value: &Value<'_, A>,
     out: &mut [u8],
 ) -> Result<usize, AllocError>
@@ -78,7 +79,7 @@ pub fn json_to_slice<A: Allocator>(
     {
         return Ok(run_in_front(out, bytes));
     }
-    let text = json_text(alloc, value)?;
+    let text = json_text(alloc, text_alloc, value)?;
     copy_to_front(out, text.as_bytes());
     Ok(text.len())
 }

@@ -28,10 +28,13 @@ pub enum PrintFault {
 /// Returns a value's JSON as text: `serde_json`'s compact text of [`to_json`](crate::to_json), with
 /// no line end.
 ///
-/// The text's capacity is at most twice its length, and above a mebibyte at most a quarter more.
-/// Besides, it allocates for the order of keys of each composite and arm that it meets (four bytes
-/// a field and an entry), 40 bytes for each child of an open object with more than eight fields
-/// whose names are out of order, and as much as the longest text with an escape.
+/// It allocates the text from `text_alloc` and its clones. The text's capacity is at most twice its
+/// length, and above a mebibyte at most a quarter more. Besides, it allocates as much as the
+/// longest text with an escape from them.
+///
+/// It allocates the order of keys of each composite and arm that it meets (four bytes a field and
+/// an entry), and 40 bytes for each child of an open object with more than eight fields whose names
+/// are out of order, from `alloc`.
 ///
 /// It takes time in proportion to the text, a look-up for each composite and arm of two fields or
 /// more, and the time to sort the names of each type that it meets. The calls nest as deep as the
@@ -40,10 +43,14 @@ pub enum PrintFault {
 /// # Errors
 ///
 /// `AllocError` if an allocation fails.
-pub fn json_text<A: Allocator>(alloc: Global, value: &Value<'_, A>) -> Result<String, AllocError>
+pub fn json_text<A: Allocator, B: Allocator + Clone>(
+    alloc: Global,
+    text_alloc: B,
+    value: &Value<'_, A>,
+) -> Result<String<B>, AllocError>
     ensures { IfOk result (λ text. string_bytes text ≡ json_text value.now) }
 {
-    let mut out = Output::with_room(alloc, FIRST_ROOM)?;
+    let mut out = Output::with_room(text_alloc, FIRST_ROOM)?;
     let mut orders = Orders::new(alloc, value.checked());
     write_node(&mut out, &mut orders, &value.root())?;
     Ok(out.into_text())
@@ -77,7 +84,7 @@ pub fn print<A: Allocator, W: WriteOnce>(
     ensures memory { IsErrOf result PrintFault.OutOfMemory → sink.new ≡ sink.old }
     ensures failed { sink.new.failed ≡ sink.old.failed || is_write result }
 {
-    let Ok(text) = json_text(alloc, value) else {
+    let Ok(text) = json_text(alloc, alloc, value) else {
         return Err(PrintFault::OutOfMemory);
     };
     match send(sink, text.as_bytes()) {

@@ -24,12 +24,16 @@ use crate::integer_json::IntegerJson;
 use crate::names::{FEW, name_of};
 use crate::orders::{FieldsOf, Keys, Known, Orders};
 use registry_core::{Arm, Field};
-use std::alloc::{AllocError, Global};
+use std::alloc::{AllocError, Allocator, Global};
 use token_core::{Escapes, Output};
 use value_core::{NodeRef, What};
 
 /// Writes an unsigned integer as a number or as a text of its decimal digits.
-fn write_unsigned(out: &mut Output, shown: IntegerJson, n: u128) -> Result<(), AllocError>
+fn write_unsigned<A: Allocator + Clone>(
+    out: &mut Output<A>,
+    shown: IntegerJson,
+    n: u128,
+) -> Result<(), AllocError>
     requires { shown ≡ Number → n < 2 ^ 64 }
     ensures { AddsValue result out.old out.new (unsigned_by shown n) }
 {
@@ -40,7 +44,11 @@ fn write_unsigned(out: &mut Output, shown: IntegerJson, n: u128) -> Result<(), A
 }
 
 /// Writes a signed integer as a number or as a text of its decimal digits.
-fn write_signed(out: &mut Output, shown: IntegerJson, n: i128) -> Result<(), AllocError>
+fn write_signed<A: Allocator + Clone>(
+    out: &mut Output<A>,
+    shown: IntegerJson,
+    n: i128,
+) -> Result<(), AllocError>
     requires { shown ≡ Number → FitsSigned w64 n }
     ensures { AddsValue result out.old out.new (signed_by shown n) }
 {
@@ -51,14 +59,14 @@ fn write_signed(out: &mut Output, shown: IntegerJson, n: i128) -> Result<(), All
 }
 
 /// Writes a run of bytes in hexadecimal.
-fn write_bytes(out: &mut Output, bytes: &[u8]) -> Result<(), AllocError>
+fn write_bytes<A: Allocator + Clone>(out: &mut Output<A>, bytes: &[u8]) -> Result<(), AllocError>
     ensures { AddsValue result out.old out.new (bytes_json bytes.now) }
 {
     out.hex(bytes)
 }
 
 /// Writes an integer of 256 bits as a text. Its lowest byte is the first.
-fn write_wide(out: &mut Output, bytes: [u8; 32]) -> Result<(), AllocError>
+fn write_wide<A: Allocator + Clone>(out: &mut Output<A>, bytes: [u8; 32]) -> Result<(), AllocError>
     ensures { AddsValue result out.old out.new (wide_json bytes) }
 {
     let mut highest_first = bytes;
@@ -67,7 +75,7 @@ fn write_wide(out: &mut Output, bytes: [u8; 32]) -> Result<(), AllocError>
 }
 
 /// Writes a text of one character.
-fn write_char(out: &mut Output, x: char) -> Result<(), AllocError>
+fn write_char<A: Allocator + Clone>(out: &mut Output<A>, x: char) -> Result<(), AllocError>
     ensures { AddsTokens result out.old out.new (string (encode_utf8 x) ∷ []) }
 {
     let mut bytes = [0; 4];
@@ -75,7 +83,7 @@ fn write_char(out: &mut Output, x: char) -> Result<(), AllocError>
 }
 
 /// Writes the number of elements, if they take no bytes.
-fn write_count(out: &mut Output, count: u32) -> Result<(), AllocError>
+fn write_count<A: Allocator + Clone>(out: &mut Output<A>, count: u32) -> Result<(), AllocError>
     ensures { AddsValue result out.old out.new
         (object (member (codes "count") (number (unsigned count)) no_members)) }
 {
@@ -116,8 +124,8 @@ fn children<'v, 'r>(
 /// there is one, or else steps past each child before it.
 #[cycle(write)]
 #[inline(always)]
-fn write_child(
-    out: &mut Output,
+fn write_child<A: Allocator + Clone>(
+    out: &mut Output<A>,
     orders: &mut Orders<'_>,
     listed: &[NodeRef<'_, '_>],
     node: &NodeRef<'_, '_>,
@@ -139,8 +147,8 @@ fn write_child(
 /// Writes the children of a node, in order, as items of an array that has begun.
 #[cycle(write)]
 #[inline(always)]
-fn write_each(
-    out: &mut Output,
+fn write_each<A: Allocator + Clone>(
+    out: &mut Output<A>,
     orders: &mut Orders<'_>,
     node: &NodeRef<'_, '_>,
 ) -> Result<(), AllocError>
@@ -157,8 +165,8 @@ fn write_each(
 
 /// Writes the children of a node as an array.
 #[cycle(write)]
-fn write_items(
-    out: &mut Output,
+fn write_items<A: Allocator + Clone>(
+    out: &mut Output<A>,
     orders: &mut Orders<'_>,
     node: &NodeRef<'_, '_>,
 ) -> Result<(), AllocError>
@@ -176,8 +184,8 @@ fn write_items(
 /// order.
 #[cycle(write)]
 #[inline(always)]
-fn write_in_order(
-    out: &mut Output,
+fn write_in_order<A: Allocator + Clone>(
+    out: &mut Output<A>,
     orders: &mut Orders<'_>,
     fields: &[Field],
     escapes: Escapes,
@@ -202,8 +210,8 @@ fn write_in_order(
 /// Writes the children of a node as an object, each at the name of its field, in the order that is
 /// kept from `start` on.
 #[cycle(write)]
-fn write_sorted(
-    out: &mut Output,
+fn write_sorted<A: Allocator + Clone>(
+    out: &mut Output<A>,
     orders: &mut Orders<'_>,
     fields: &[Field],
     start: usize,
@@ -230,8 +238,8 @@ fn write_sorted(
 
 /// Writes the children of a node as the values of fields.
 #[cycle(write)]
-fn write_fields(
-    out: &mut Output,
+fn write_fields<A: Allocator + Clone>(
+    out: &mut Output<A>,
     orders: &mut Orders<'_>,
     of: FieldsOf,
     fields: &[Field],
@@ -256,8 +264,8 @@ fn write_fields(
 /// Writes the children of a node as the values of an arm's fields: an object whose one key is the
 /// arm's name.
 #[cycle(write)]
-fn write_arm(
-    out: &mut Output,
+fn write_arm<A: Allocator + Clone>(
+    out: &mut Output<A>,
     orders: &mut Orders<'_>,
     of: FieldsOf,
     arm: &Arm,
@@ -296,8 +304,8 @@ fn write_arm(
 /// Writes a node and all that is below it.
 #[cycle(write)]
 #[inline(always)]
-pub(crate) fn write_node(
-    out: &mut Output,
+pub(crate) fn write_node<A: Allocator + Clone>(
+    out: &mut Output<A>,
     orders: &mut Orders<'_>,
     node: &NodeRef<'_, '_>,
 ) -> Result<(), AllocError>

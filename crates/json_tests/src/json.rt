@@ -26,7 +26,7 @@ fn check_slice(
         let mut out = vec![in alloc; b'.'; room]?;
         same(
             rt,
-            (room, json_to_slice(alloc, value, &mut out)),
+            (room, json_to_slice(alloc, alloc, value, &mut out)),
             (room, Ok(text.len())),
         );
         if room < text.len() {

@@ -9,11 +9,12 @@ use crate::refusal::ValueRefusal;
 use decode_core::decode_pieces;
 use json_core::json_text;
 use registry_core::TypeId;
-use std::alloc::Global;
+use std::alloc::{Allocator, Global};
 use value_core::{Limits, Value};
 use widths_core::Checked;
 
-/// Reads the value of the type at a position that all the bytes spell, within the limits.
+/// Reads the value of the type at a position that all the bytes spell, within the limits. All that
+/// it allocates comes from the allocator and its clones.
 ///
 /// # Errors
 ///
@@ -24,13 +25,13 @@ use widths_core::Checked;
 /// - `Fault`: what the decoder rejects the bytes for.
 /// - `TrailingBytes` at the value's length, if bytes follow it.
 /// - `Memory` if an allocation fails.
-pub fn read_value<'r>(
-    alloc: Global,
+pub fn read_value<'r, A: Allocator + Clone>(
+    alloc: A,
     checked: &'r Checked,
     id: u32,
     limits: Limits,
     bytes: &[u8],
-) -> Result<Value<'r, Global>, ValueRefusal>
+) -> Result<Value<'r, A>, ValueRefusal>
     ensures { ReadsValue (opening_fault checked.now.types id limits)
         (job_of checked.now.types id limits) bytes.now result }
 {
@@ -62,5 +63,5 @@ pub fn value_text(
         (job_of checked.now.types id limits) bytes.now result }
 {
     let value = read_value(alloc, checked, id, limits, bytes)?;
-    Ok(json_text(alloc, &value)?)
+    Ok(json_text(alloc, alloc, &value)?)
 }

@@ -27,7 +27,7 @@ use value_core::{Value, send};
 fn line_text(alloc: Global, value: &Value<'_, Global>) -> Result<String, AllocError>
     ensures { IfOk result (λ text. string_bytes text ≡ line_of value.now) }
 {
-    let mut text = json_text(alloc, value)?;
+    let mut text = json_text(alloc, alloc, value)?;
     text.push_str("\n")?;
     Ok(text)
 }

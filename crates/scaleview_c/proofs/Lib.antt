@@ -2,3 +2,4 @@ pub mod Ended
 pub mod Handles
 pub mod Lents
 pub mod Pointers
+pub mod Written

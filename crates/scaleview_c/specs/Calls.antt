@@ -1,8 +1,7 @@
 -- What each call does to what is behind its handles, and what it reports.
 use Rattle.std.specs.Prelude.{◌≡◌, ℕ, ◌⊎◌, List, [], ◌++◌, length, Bool, Option}
-use Rattle.std.specs.Prelude.{Some, None, MatchOption, Result, Ok, Err, string_bytes}
+use Rattle.std.specs.Prelude.{Some, None, MatchOption, Result, Ok, Err}
 use Rattle.grammar_core.specs.declared.limits.Limits.{Limits}
-use Rattle.node_core.specs.Shown.{Seen}
 use Rattle.json_core.specs.Json.{json_text}
 use Rattle.json_core.specs.Printed.{IsInFront}
 use Rattle.machine_core.specs.Outcome.{Job}
@@ -37,6 +36,10 @@ Writes text old new a = IsInFront text old new × (a ≡ text_answer (length tex
 -- the code alone is reported
 abbrev pub Leaves : List ℕ → List ℕ → Answer → Answer → Type 0
 Leaves old new reported a = (new ≡ old) × (a ≡ reported)
+
+-- the text is written, unless an allocation failed, which is reported
+abbrev pub WritesUnlessMemory : List ℕ → List ℕ → List ℕ → Answer → Type 0
+WritesUnlessMemory text old new a = Leaves old new (plain 3) a ⊎ Writes text old new a
 
 -- ---- registries
 
@@ -114,7 +117,7 @@ ForbidsStart forbidden a = ((f : OpenFault) × (forbidden ≡ Some f)
 abbrev pub IsStarted : Opened → ℕ → Limits → Stage → Type 0
 IsStarted o id limits (stage.Decoding d) = (opening_fault o.checked.types id limits ≡ None)
     × (d ≡ first_of_all o.checked.types id limits) × Led d []
-IsStarted o id limits (stage.Shown text) = ⊥
+IsStarted o id limits (stage.Complete v) = ⊥
 IsStarted o id limits (stage.Refused e) = ⊥
 
 -- what a box holds is such a session; or it is reported why there is none
@@ -155,9 +158,9 @@ abbrev pub FeedsStage : Stage → List ℕ → Stage → Answer → Type 0
 FeedsStage (stage.Decoding d) piece (stage.Decoding e) a = (r : Result Progress DecodeFault)
     × ((b : List ℕ) → Led d b → AnswersPiece d e (b ++ piece) r × Led e (b ++ piece))
     × (a ≡ fed_answer r)
-FeedsStage (stage.Decoding d) piece (stage.Shown text) a = ⊥
+FeedsStage (stage.Decoding d) piece (stage.Complete v) a = ⊥
 FeedsStage (stage.Decoding d) piece (stage.Refused e) a = ⊥
-FeedsStage (stage.Shown text) piece new a = (new ≡ stage.Shown text) × (a ≡ counted 0 0)
+FeedsStage (stage.Complete v) piece new a = (new ≡ stage.Complete v) × (a ≡ counted 0 0)
 FeedsStage (stage.Refused e) piece new a = (new ≡ stage.Refused e) × (a ≡ value_answer e)
 
 -- there is no session, which is reported, and nothing changes
@@ -174,7 +177,7 @@ Feeds None piece new a = IsNone None new a
 -- a number of a decoder that is in progress
 abbrev pub number_by : (Decoding → ℕ) → Stage → ℕ
 number_by count (stage.Decoding d) = count d
-number_by count (stage.Shown text) = 0
+number_by count (stage.Complete v) = 0
 number_by count (stage.Refused e) = 0
 
 abbrev pub taken_of : Decoding → ℕ
@@ -187,11 +190,9 @@ Reports count (Some (held.Session s)) new a = (new ≡ Some (held.Session s))
 Reports count (Some (held.Registry o)) new a = IsNone (Some (held.Registry o)) new a
 Reports count None new a = IsNone None new a
 
--- the end of these bytes: the JSON of their value, or why there is none, unless an allocation
--- failed
+-- the end of these bytes: their value, or why there is none, unless an allocation failed
 abbrev pub EndsAs : Job → List ℕ → Stage → Type 0
-EndsAs j b (stage.Shown text) = (v : Seen) × FinishesDecoder j b (Ok v)
-    × (string_bytes text ≡ json_text v)
+EndsAs j b (stage.Complete v) = FinishesDecoder j b (Ok v)
 EndsAs j b (stage.Refused (value.Fault f)) = FinishesDecoder j b (Err f)
 EndsAs j b (stage.Refused value.Memory) = Unit {0}
 EndsAs j b (stage.Refused _) = ⊥
@@ -200,13 +201,14 @@ EndsAs j b (stage.Decoding d) = ⊥
 -- a value in progress is ended, and one that was ended stays
 abbrev pub Ends : Stage → Stage → Type 0
 Ends (stage.Decoding d) new = (b : List ℕ) → Led d b → EndsAs d.job b new
-Ends (stage.Shown text) new = new ≡ stage.Shown text
+Ends (stage.Complete v) new = new ≡ stage.Complete v
 Ends (stage.Refused e) new = new ≡ stage.Refused e
 
--- its text is written, or it is reported why there is none
+-- the JSON of a complete value is written, unless an allocation failed; or it is reported why there
+-- is none
 abbrev pub WritesStage : Stage → List ℕ → List ℕ → Answer → Type 0
 WritesStage (stage.Decoding d) old new a = Leaves old new (plain 1) a
-WritesStage (stage.Shown text) old new a = Writes (string_bytes text) old new a
+WritesStage (stage.Complete v) old new a = WritesUnlessMemory (json_text v) old new a
 WritesStage (stage.Refused e) old new a = Leaves old new (value_answer e) a
 
 abbrev pub FinishesSession : Option Resource → Option Resource → List ℕ → List ℕ → Answer → Type 0

@@ -1,6 +1,8 @@
 //! Handles: pointers that C keeps.
 
 ghost use Rattle.std.specs.Prelude.{◌≡◌, Option, Some, None, MatchOption};
+ghost use Rattle.std.specs.Coded.{codes};
+ghost use Rattle.grammar_core.specs.Preorder.{tree_code};
 ghost use Rattle.scaleview_c.specs.declared.resource.Resource.{Resource as AHeld};
 
 use crate::box_parts::{BoxParts, put_together, take_apart};
@@ -14,7 +16,7 @@ use std::ptr;
 #[derive(Drop)]
 pub struct Handle {
     at: *mut u8,
-    pub ghost value: { Option AHeld },
+    pub ghost value: { Option AHeld } by { Prim.hlevel (codes, tree_code) },
 }
 
 impl Model for Handle {

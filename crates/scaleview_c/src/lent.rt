@@ -1,6 +1,8 @@
 //! Handles that C lends for a call.
 
 ghost use Rattle.std.specs.Prelude.{◌≡◌, Option, Some, None, MatchOption};
+ghost use Rattle.std.specs.Coded.{codes};
+ghost use Rattle.grammar_core.specs.Preorder.{tree_code};
 ghost use Rattle.scaleview_c.specs.declared.resource.Resource.{Resource as AHeld};
 
 use crate::resource::Resource;
@@ -11,7 +13,7 @@ use std::marker::Model;
 #[derive(Drop)]
 pub struct Lent {
     at: *mut u8,
-    pub ghost value: { Option AHeld },
+    pub ghost value: { Option AHeld } by { Prim.hlevel (codes, tree_code) },
 }
 
 impl Model for Lent {

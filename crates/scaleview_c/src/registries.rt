@@ -12,11 +12,9 @@ use crate::keeper::{Heap, Keeper, close_code};
 use crate::lent::Lent;
 use crate::opened::Opened;
 use crate::resource::Resource;
-use crate::text::put;
-use json_core::json_to_slice;
-use scale_calls::{
-    OpenedRegistry, RegistryRefusal, ValueRefusal, open_registry, read_value, type_line,
-};
+use crate::text::{put, put_json};
+use budget_core::Budget;
+use scale_calls::{OpenedRegistry, RegistryRefusal, open_registry, read_value, type_line};
 use std::alloc::Global;
 use std::mem;
 use value_core::Limits;
@@ -134,23 +132,26 @@ pub extern "C" fn scaleview_type_line(
     answer.code
 }
 
-/// Writes the JSON of the value that the bytes spell.
+/// Writes the JSON of the value that the bytes spell, with this budget of memory.
 fn write_value(
     alloc: Global,
     opened: &Opened,
     id: u32,
     limits: Limits,
+    memory: u64,
     bytes: &[u8],
     out: &mut [u8],
 ) -> Answer
     ensures { WritesJson opened.now id limits bytes.now out.old out.new result }
 {
-    let room = out.len();
-    match read_value(alloc, &opened.checked, id, limits, bytes) {
-        Ok(value) => match json_to_slice(alloc, &value, out) {
-            Ok(len) => Answer::of_text(len, room),
-            Err(_) => Answer::of_value(ValueRefusal::Memory),
-        },
+    let Ok(budget) = Budget::new(alloc, memory) else {
+        return Answer::plain(MEMORY);
+    };
+    let Ok(value_alloc) = budget.clone() else {
+        return Answer::plain(MEMORY);
+    };
+    match read_value(value_alloc, &opened.checked, id, limits, bytes) {
+        Ok(value) => put_json(alloc, &budget, &value, out),
         Err(refusal) => Answer::of_value(refusal),
     }
 }
@@ -163,6 +164,7 @@ pub extern "C" fn scaleview_decode(
     id: u32,
     depth: u16,
     limit: u64,
+    memory: u64,
     bytes: &[u8],
     out: &mut [u8],
     answer: &mut Answer,
@@ -176,7 +178,9 @@ pub extern "C" fn scaleview_decode(
         bytes: limit,
     };
     *answer = match registry.get() {
-        Some(Resource::Registry(opened)) => write_value(alloc, opened, id, limits, bytes, out),
+        Some(Resource::Registry(opened)) => {
+            write_value(alloc, opened, id, limits, memory, bytes, out)
+        }
         Some(Resource::Session(_)) | None => Answer::plain(NO_HANDLE),
     };
     answer.code

@@ -6,19 +6,20 @@ ghost use Rattle.scaleview_c.specs.Calls.{Ends, FeedsStage, WritesStage, number_
 
 use crate::codes::{Answer, MORE, OK};
 use crate::opened::Opened;
-use crate::text::put;
+use crate::text::put_json;
+use budget_core::Budget;
 use decode_core::Decoder;
-use json_core::json_text;
 use scale_calls::ValueRefusal;
 use std::alloc::Global;
+use value_core::Value;
 
 /// The stage of a value.
 #[derive(Drop)]
 pub enum Stage {
     /// It takes bytes.
-    Decoding(Decoder<'static, Global>),
-    /// It has ended, and this is its JSON.
-    Shown(String),
+    Decoding(Decoder<'static, Budget<Global>>),
+    /// It has ended, and is complete.
+    Complete(Value<'static, Budget<Global>>),
     /// It has ended, and was rejected.
     Refused(ValueRefusal),
 }
@@ -28,6 +29,8 @@ pub enum Stage {
 pub struct Session {
     pub stage: Stage,
     pub registry: &'static Opened,
+    /// The memory that the value, and its text while it is written, may take.
+    pub budget: Budget<Global>,
 }
 
 impl Stage {
@@ -40,7 +43,7 @@ impl Stage {
                 Ok(progress) => Answer::of_progress(progress),
                 Err(fault) => Answer::of_value(ValueRefusal::from(fault)),
             },
-            Stage::Shown(_) => Answer::counted(OK, 0),
+            Stage::Complete(_) => Answer::counted(OK, 0),
             Stage::Refused(refusal) => Answer::of_value(*refusal),
         }
     }
@@ -51,7 +54,7 @@ impl Stage {
     {
         match self {
             Stage::Decoding(decoder) => decoder.taken(),
-            Stage::Shown(_) | Stage::Refused(_) => 0,
+            Stage::Complete(_) | Stage::Refused(_) => 0,
         }
     }
 
@@ -61,7 +64,7 @@ impl Stage {
     {
         match self {
             Stage::Decoding(decoder) => decoder.node_count(),
-            Stage::Shown(_) | Stage::Refused(_) => 0,
+            Stage::Complete(_) | Stage::Refused(_) => 0,
         }
     }
 
@@ -71,33 +74,30 @@ impl Stage {
     {
         match self {
             Stage::Decoding(decoder) => decoder.text_bytes(),
-            Stage::Shown(_) | Stage::Refused(_) => 0,
+            Stage::Complete(_) | Stage::Refused(_) => 0,
         }
     }
 
     /// Ends the value, if it has not ended.
-    pub(crate) fn ended(self, alloc: Global) -> Stage
+    pub(crate) fn ended(self) -> Stage
         ensures { Ends self result }
     {
         match self {
             Stage::Decoding(decoder) => match decoder.finish() {
-                Ok(value) => match json_text(alloc, &value) {
-                    Ok(text) => Stage::Shown(text),
-                    Err(_) => Stage::Refused(ValueRefusal::Memory),
-                },
+                Ok(value) => Stage::Complete(value),
                 Err(fault) => Stage::Refused(ValueRefusal::from(fault)),
             },
             ended => ended,
         }
     }
 
-    /// Writes the text of an ended value to the front of `out`.
-    pub(crate) fn put(&self, out: &mut [u8]) -> Answer
+    /// Writes the JSON of an ended value to the front of `out`, by way of a text in the budget.
+    pub(crate) fn put(&self, alloc: Global, budget: &Budget<Global>, out: &mut [u8]) -> Answer
         ensures { WritesStage self.now out.old out.new result }
     {
         match self {
             Stage::Decoding(_) => Answer::plain(MORE),
-            Stage::Shown(text) => put(out, text.as_bytes()),
+            Stage::Complete(value) => put_json(alloc, budget, value, out),
             Stage::Refused(refusal) => Answer::of_value(*refusal),
         }
     }

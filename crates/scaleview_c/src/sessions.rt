@@ -14,6 +14,7 @@ use crate::lent::Lent;
 use crate::opened::Opened;
 use crate::resource::Resource;
 use crate::session::{Session, Stage};
+use budget_core::Budget;
 use decode_core::Decoder;
 use registry_core::TypeId;
 use scale_calls::ValueRefusal;
@@ -21,19 +22,22 @@ use std::alloc::Global;
 use std::mem;
 use value_core::Limits;
 
-/// Creates a session that has taken no bytes.
+/// Creates a session that has taken no bytes, with this budget of memory.
 fn started(
     alloc: Global,
     registry: &'static Opened,
     id: u32,
     limits: Limits,
+    memory: u64,
 ) -> Result<Box<Resource>, ValueRefusal>
     ensures { StartsBox (λ held. held.value) registry.now id limits result }
 {
-    let decoder = Decoder::new(alloc, &registry.checked, TypeId(id), limits)?;
+    let budget = Budget::new(alloc, memory)?;
+    let decoder = Decoder::new(budget.clone()?, &registry.checked, TypeId(id), limits)?;
     let session = Session {
         stage: Stage::Decoding(decoder),
         registry,
+        budget,
     };
     match Box::new(alloc, Resource::Session(session)) {
         Ok(held) => Ok(held),
@@ -48,6 +52,7 @@ pub fn start_in<K: Keeper>(
     registry: Lent,
     id: u32,
     limits: Limits,
+    memory: u64,
     session: &mut Handle,
 ) -> Answer
     ensures started { StartsHandle session.old.value registry.value id limits
@@ -60,7 +65,7 @@ pub fn start_in<K: Keeper>(
         return Answer::plain(TAKEN);
     }
     match registry.get() {
-        Some(Resource::Registry(opened)) => match started(alloc, opened, id, limits) {
+        Some(Resource::Registry(opened)) => match started(alloc, opened, id, limits, memory) {
             Ok(held) => {
                 lend(keeper, opened);
                 *session = handle_of(held);
@@ -80,6 +85,7 @@ pub extern "C" fn scaleview_start(
     id: u32,
     depth: u16,
     limit: u64,
+    memory: u64,
     session: &mut Handle,
     answer: &mut Answer,
 ) -> u32
@@ -93,7 +99,7 @@ pub extern "C" fn scaleview_start(
         depth,
         bytes: limit,
     };
-    *answer = start_in(alloc, &mut Heap {}, registry, id, limits, session);
+    *answer = start_in(alloc, &mut Heap {}, registry, id, limits, memory, session);
     answer.code
 }
 
@@ -197,8 +203,8 @@ pub extern "C" fn scaleview_finish(
     *answer = match &mut *held {
         Resource::Session(session) => {
             let stage = mem::replace(&mut session.stage, Stage::Refused(ValueRefusal::Memory));
-            session.stage = stage.ended(alloc);
-            session.stage.put(out)
+            session.stage = stage.ended();
+            session.stage.put(alloc, &session.budget, out)
         }
         Resource::Registry(_) => Answer::plain(NO_HANDLE),
     };

@@ -16,7 +16,7 @@ use crate::places::{
 use crate::plain::{Escapes, is_plain};
 use crate::strings::place_hex_text;
 use json::Writer;
-use std::alloc::{AllocError, Global};
+use std::alloc::{AllocError, Allocator};
 use std::marker::Model;
 
 /// The most zeros that are appended beyond those that a token needs.
@@ -37,16 +37,16 @@ static ZEROS: [u8; 4096] = [0; 4096];
 ///
 /// After an `AllocError` the text is unspecified, and the writer is to be dropped.
 #[derive(Drop)]
-pub struct Output {
+pub struct Output<A: Allocator> {
     /// The text, and zeros after it that tokens overwrite, so that a token asks for capacity once.
-    bytes: Vec<u8>,
+    bytes: Vec<u8, A>,
     len: usize,
     after_value: bool,
     /// The buffer in which texts are escaped, kept for its capacity.
-    escaped: Vec<u8>,
+    escaped: Vec<u8, A>,
 }
 
-impl Model for Output {
+impl<A: Allocator> Model for Output<A> {
     ghost use Rattle.std.specs.Prelude.{length, take, ◌≤◌};
     ghost use Rattle.std.specs.Str.{IsUtf8};
     ghost use Rattle.token_core.specs.Tokens.{Text};
@@ -60,7 +60,11 @@ impl Model for Output {
 
 /// Ensures that `more` bytes follow the first `len`.
 #[inline(always)]
-fn make_room(bytes: &mut Vec<u8>, len: usize, more: usize) -> Result<(), AllocError>
+fn make_room<A: Allocator>(
+    bytes: &mut Vec<u8, A>,
+    len: usize,
+    more: usize,
+) -> Result<(), AllocError>
     requires { len ≤ length bytes.old.items }
     ensures ok { OnOk result (len + more ≤ length bytes.new.items) }
     ensures same { take len bytes.new.items ≡ take len bytes.old.items }
@@ -76,7 +80,7 @@ fn make_room(bytes: &mut Vec<u8>, len: usize, more: usize) -> Result<(), AllocEr
 /// and from `LONG` bytes on it grows by a quarter.
 #[cold]
 #[inline(never)]
-fn grow(bytes: &mut Vec<u8>, more: usize) -> Result<(), AllocError>
+fn grow<A: Allocator>(bytes: &mut Vec<u8, A>, more: usize) -> Result<(), AllocError>
     ensures ok { OnOk result (length bytes.old.items + more ≤ length bytes.new.items) }
     ensures same { take (length bytes.old.items) bytes.new.items ≡ bytes.old.items }
     ensures kept { length bytes.old.items ≤ length bytes.new.items }
@@ -139,27 +143,29 @@ impl Role {
     }
 }
 
-impl Output {
+impl<A: Allocator + Clone> Output<A> {
     ghost use Rattle.token_core.specs.Tokens.{AddsTokens, put};
 
-    /// Returns a writer whose text is empty, with a capacity of `room` bytes.
+    /// Returns a writer whose text is empty, with a capacity of `room` bytes. Everything that it
+    /// allocates comes from the allocator and its clones.
     ///
     /// # Errors
     ///
     /// `AllocError` if an allocation fails.
-    pub fn with_room(alloc: Global, room: usize) -> Result<Output, AllocError>
+    pub fn with_room(alloc: A, room: usize) -> Result<Output<A>, AllocError>
         ensures { IfOk result (λ o. o ≡ record { text = []; after_value = false }) }
     {
+        let escaped = Vec::new(alloc.clone()?);
         Ok(Output {
             bytes: Vec::with_capacity(alloc, room)?,
             len: 0,
             after_value: false,
-            escaped: Vec::new(alloc),
+            escaped,
         })
     }
 
     /// Returns the text.
-    pub fn into_text(self) -> String
+    pub fn into_text(self) -> String<A>
         ensures { string_bytes result ≡ self.text }
     {
         let Output { mut bytes, len, .. } = self;
@@ -402,7 +408,8 @@ impl Output {
     fn escaped_key(&mut self, name: &str) -> Result<(), AllocError>
         ensures { AddsTokens result self.old self.new (key name.now ∷ []) }
     {
-        let mut room = std::mem::replace(&mut self.escaped, Vec::new(*self.bytes.allocator()));
+        let alloc = self.bytes.allocator().clone()?;
+        let mut room = std::mem::replace(&mut self.escaped, Vec::new(alloc));
         room.clear();
         let mut escaped = Writer::new(room);
         escaped.key(name)?;
@@ -433,7 +440,8 @@ impl Output {
     fn escaped(&mut self, text: &str) -> Result<(), AllocError>
         ensures { AddsTokens result self.old self.new (string text.now ∷ []) }
     {
-        let mut room = std::mem::replace(&mut self.escaped, Vec::new(*self.bytes.allocator()));
+        let alloc = self.bytes.allocator().clone()?;
+        let mut room = std::mem::replace(&mut self.escaped, Vec::new(alloc));
         room.clear();
         let mut escaped = Writer::new(room);
         escaped.string(text)?;

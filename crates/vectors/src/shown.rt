@@ -36,7 +36,7 @@ fn check_slice(alloc: Global, row: &Row<'_>, value: &Value<'_, Global>) -> Resul
         alloc,
         Way::Slice,
         Ok(len),
-        json_to_slice(alloc, value, &mut out),
+        json_to_slice(alloc, alloc, value, &mut out),
     )?;
     check_bytes(alloc, Way::Slice, &wanted, &out)?;
     let mut short = vec![in alloc; b'.'; len.saturating_sub(1)]?;
@@ -45,7 +45,7 @@ fn check_slice(alloc: Global, row: &Row<'_>, value: &Value<'_, Global>) -> Resul
         alloc,
         Way::Slice,
         Ok(len),
-        json_to_slice(alloc, value, &mut short),
+        json_to_slice(alloc, alloc, value, &mut short),
     )?;
     check_bytes(alloc, Way::Slice, &untouched, &short)
 }

@@ -38,7 +38,7 @@ use Rattle.json_core.proofs.writing.+write.Goals as goal
 -- What is written so far and the items that are left are always the whole array.
 
 pub write_each-children-init : goal.write_each-children-init
-write_each-children-init t c = record {
+write_each-children-init g t c = record {
   can = tt;
   ends = tt;
   reported = search rules;
@@ -51,7 +51,7 @@ write_each-children-init t c = record {
 }
 
 pub write_each-children-preserved : goal.write_each-children-preserved
-write_each-children-preserved t c =
+write_each-children-preserved g t c =
     let child : c.children.child-iterator ≡ c.in-Some.child ∷ c.next.new.self = search rules in
     record {
       can = search rules;
@@ -67,7 +67,7 @@ write_each-children-preserved t c =
     }
 
 pub write_each-returns-clause-adds : goal.write_each-returns-clause-adds
-write_each-returns-clause-adds t c =
+write_each-returns-clause-adds g t c =
     let none : c.children.child-iterator ≡ [] = search rules in
     ap (λ ss. prints c.children.out (items_tokens (items_outline (items_of (map json_seen ss)))))
     (sym none) ∙ c.children.invariant.reported
@@ -75,7 +75,7 @@ write_each-returns-clause-adds t c =
 -- ---- write_items: `write_each` between the brackets
 
 pub write_items-returns-clause-adds : goal.write_items-returns-clause-adds
-write_items-returns-clause-adds t c =
+write_items-returns-clause-adds g t c =
     on_ok_weaker c.end_array.result (λ e. array_whole c.args.out.now c.begin_array.new.self
     c.write_each.new.out c.end_array.new.self
     (items_of (map json_seen (children_of c.args.node.now))) c.in_ok-begin_array.ensures
@@ -84,27 +84,27 @@ write_items-returns-clause-adds t c =
 -- ---- write_child: one child by its position, from the list or by steps past those before it
 
 pub write_child-write_node-requires : goal.write_child-write_node-requires
-write_child-write_node-requires t c =
+write_child-write_node-requires g t c =
     let got = child_listed c.args.node.now c.args.listed.now c.args.position c.in-Some.child.now
     c.requires.listed (search rules) c.in-Some.ensures.lookup.1 in
     let h = child_below c.args.node.now c.args.position c.in-Some.child.now got in
-    (omega (arith, h.1), c.requires.types ∙ sym h.0)
+    λ κs within. (omega (arith, h.1), (within, c.requires.types ∙ sym h.0))
 
 pub write_child-write_node-requires-in-None : goal.write_child-write_node-requires-in-None
-write_child-write_node-requires-in-None t c =
+write_child-write_node-requires-in-None g t c =
     let h = child_below c.args.node.now c.args.position c.child_at.result
     (sym c.child_at.ensures) in
-    (omega (arith, h.1), c.requires.types ∙ sym h.0)
+    λ κs within. (omega (arith, h.1), (within, c.requires.types ∙ sym h.0))
 
 pub write_child-returns-in-Some-clause-adds : goal.write_child-returns-in-Some-clause-adds
-write_child-returns-in-Some-clause-adds t c =
+write_child-returns-in-Some-clause-adds g t c =
     let got = child_listed c.args.node.now c.args.listed.now c.args.position c.in-Some.child.now
     c.requires.listed (search rules) c.in-Some.ensures.lookup.1 in
     rw (child_data c.args.node.now c.args.position c.in-Some.child.now got)
     c.write_node.ensures.adds
 
 pub write_child-returns-in-None-clause-adds : goal.write_child-returns-in-None-clause-adds
-write_child-returns-in-None-clause-adds t c =
+write_child-returns-in-None-clause-adds g t c =
     rw (child_data c.args.node.now c.args.position c.child_at.result (sym c.child_at.ensures))
     c.write_node-in-None.ensures.adds
 
@@ -112,7 +112,7 @@ write_child-returns-in-None-clause-adds t c =
 -- Fields and children are read side by side, so as many of both are left after each turn.
 
 pub write_in_order-members-init : goal.write_in_order-members-init
-write_in_order-members-init t c =
+write_in_order-members-init g t c =
     let gives = c.into_iter-field-iterator.ensures.into_iter_gives in
     let first = c.zip-field-items.ensures.first in
     let second = c.zip-field-items.ensures.second in record {
@@ -129,7 +129,7 @@ write_in_order-members-init t c =
     }
 
 pub write_in_order-members-preserved : goal.write_in_order-members-preserved
-write_in_order-members-preserved t c =
+write_in_order-members-preserved g t c =
     let fs = iter_rest c.next.new.self.a in
     let ss = c.next.new.self.b in
     let field : iter_rest c.members.field-iterator.a ≡ c.in-Some.field.now ∷ fs = search rules in
@@ -156,7 +156,7 @@ write_in_order-members-preserved t c =
     }
 
 pub write_in_order-returns-clause-adds : goal.write_in_order-returns-clause-adds
-write_in_order-returns-clause-adds t c =
+write_in_order-returns-clause-adds g t c =
     let fs = c.args.fields.now in
     let ds = map json_seen (children_of c.args.node.now) in
     let rest = iter_rest c.members.field-iterator.a in
@@ -174,7 +174,7 @@ write_in_order-returns-clause-adds t c =
     (in_order_json_is fs ds c.requires.keys count)) c.end_object.ensures
 
 pub write_in_order-key-requires : goal.write_in_order-key-requires
-write_in_order-key-requires t c =
+write_in_order-key-requires g t c =
     let fs = iter_rest c.next.new.self.a in
     let field : iter_rest c.members.field-iterator.a ≡ c.in-Some.field.now ∷ fs = search rules in
     plain_first c.args.escapes c.in-Some.field.now fs c.name_of.result.now c.name_of.ensures
@@ -184,7 +184,7 @@ write_in_order-key-requires t c =
 -- A turn asks the kept order for a position, and writes the field and the child that stand there.
 
 pub write_sorted-members-init : goal.write_sorted-members-init
-write_sorted-members-init t c = record {
+write_sorted-members-init g t c = record {
   named = positions_are_named c.args.fields.now _ c.requires.keys.1;
   reported = refl;
   types = c.requires.types;
@@ -192,7 +192,7 @@ write_sorted-members-init t c = record {
 }
 
 pub write_sorted-members-preserved : goal.write_sorted-members-preserved
-write_sorted-members-preserved t c =
+write_sorted-members-preserved g t c =
     let fs = c.args.fields.now in
     let ds = map json_seen (children_of c.args.node.now) in
     let order = slice_range c.args.orders.now.positions c.args.start (c.args.start + length fs) in
@@ -217,13 +217,13 @@ write_sorted-members-preserved t c =
     }
 
 pub write_sorted-bounds-fields-position : goal.write_sorted-bounds-fields-position
-write_sorted-bounds-fields-position t c = (turn_at c.args.fields.now c.args.orders.now
+write_sorted-bounds-fields-position g t c = (turn_at c.args.fields.now c.args.orders.now
     c.members.orders c.args.start c.members.turn c.position-position.result
     c.members.invariant.grows c.requires.keys (omega arith) c.members.invariant.named
     c.position-position.ensures).within
 
 pub write_sorted-name_of-requires : goal.write_sorted-name_of-requires
-write_sorted-name_of-requires t c =
+write_sorted-name_of-requires g t c =
     let turn = turn_at c.args.fields.now c.args.orders.now c.members.orders c.args.start
     c.members.turn c.position-position.result c.members.invariant.grows c.requires.keys
     (omega arith) c.members.invariant.named c.position-position.ensures in
@@ -231,22 +231,25 @@ write_sorted-name_of-requires t c =
     c.index-fields-position.is
 
 pub write_sorted-write_child-requires : goal.write_sorted-write_child-requires
-write_sorted-write_child-requires t c =
+write_sorted-write_child-requires g t c =
     let turn = turn_at c.args.fields.now c.args.orders.now c.members.orders c.args.start
     c.members.turn c.position-position.result c.members.invariant.grows c.requires.keys
-    (omega arith) c.members.invariant.named c.position-position.ensures in (
+    (omega arith) c.members.invariant.named c.position-position.ensures in λ κs within. (
       omega arith,
       (
-        c.members.invariant.types,
+        within,
         (
-          rw c.deref.ensures.value c.in_ok-children.ensures,
-          omega (arith, turn.within, c.requires.count),
+          c.members.invariant.types,
+          (
+            rw c.deref.ensures.value c.in_ok-children.ensures,
+            omega (arith, turn.within, c.requires.count),
+          ),
         ),
       ),
     )
 
 pub write_sorted-returns-clause-adds : goal.write_sorted-returns-clause-adds
-write_sorted-returns-clause-adds t c =
+write_sorted-returns-clause-adds g t c =
     let fs = c.args.fields.now in
     let ds = map json_seen (children_of c.args.node.now) in
     let order = slice_range c.args.orders.now.positions c.args.start (c.args.start + length fs) in
@@ -261,7 +264,7 @@ write_sorted-returns-clause-adds t c =
     (sorted_json_is fs order ds c.requires.keys.1 count)) c.end_object.ensures
 
 pub write_sorted-key-requires : goal.write_sorted-key-requires
-write_sorted-key-requires t c =
+write_sorted-key-requires g t c =
     let turn = turn_at c.args.fields.now c.args.orders.now c.members.orders c.args.start
     c.members.turn c.position-position.result c.members.invariant.grows c.requires.keys
     (omega arith) c.members.invariant.named c.position-position.ensures in
@@ -273,7 +276,7 @@ write_sorted-key-requires t c =
 -- ---- write_fields: an array or an object, by what is known of the names
 
 pub write_fields-returns-in-Unnamed-clause-adds : goal.write_fields-returns-in-Unnamed-clause-adds
-write_fields-returns-in-Unnamed-clause-adds t c =
+write_fields-returns-in-Unnamed-clause-adds g t c =
     let keys = c.in_ok-keys.ensures.keys.0 in
     rw (unnamed_json_is c.args.fields.now (jsons (children_of c.args.node.now))
     (rw c.in-Unnamed.is at keys)) c.write_items.ensures.adds
@@ -282,7 +285,7 @@ write_fields-returns-in-Unnamed-clause-adds t c =
 
 pub write_arm-returns-in_ok-write_each-in-Unnamed-clause-adds :
     goal.write_arm-returns-in_ok-write_each-in-Unnamed-clause-adds
-write_arm-returns-in_ok-write_each-in-Unnamed-clause-adds t c =
+write_arm-returns-in_ok-write_each-in-Unnamed-clause-adds g t c =
     let fs = c.as_slice-fields.result.now in
     let ds = jsons (children_of c.args.node.now) in
     let keys = c.in_ok-keys.ensures.keys.0 in
@@ -298,7 +301,7 @@ write_arm-returns-in_ok-write_each-in-Unnamed-clause-adds t c =
 
 pub write_arm-returns-in_ok-write_in_order-in-InOrder-clause-adds :
     goal.write_arm-returns-in_ok-write_in_order-in-InOrder-clause-adds
-write_arm-returns-in_ok-write_in_order-in-InOrder-clause-adds t c =
+write_arm-returns-in_ok-write_in_order-in-InOrder-clause-adds g t c =
     rw (← c.as_str-name.ensures.same, ← c.as_slice-fields.ensures)
     (on_ok_weaker c.end_object.result (λ e. member_whole c.args.out.now c.begin_member.new.self
     c.write_in_order.new.out c.end_object.new.self c.as_str-name.result.now
@@ -308,7 +311,7 @@ write_arm-returns-in_ok-write_in_order-in-InOrder-clause-adds t c =
 
 pub write_arm-returns-in_ok-write_sorted-in-Sorted-clause-adds :
     goal.write_arm-returns-in_ok-write_sorted-in-Sorted-clause-adds
-write_arm-returns-in_ok-write_sorted-in-Sorted-clause-adds t c =
+write_arm-returns-in_ok-write_sorted-in-Sorted-clause-adds g t c =
     rw (← c.as_str-name.ensures.same, ← c.as_slice-fields.ensures)
     (on_ok_weaker c.end_object-in-Sorted.result (λ e. member_whole c.args.out.now
     c.begin_member-in-Sorted.new.self c.write_sorted.new.out c.end_object-in-Sorted.new.self
@@ -321,127 +324,133 @@ write_arm-returns-in_ok-write_sorted-in-Sorted-clause-adds t c =
 -- JSON, as `Reported` says of each layout; then the text, a kind each.
 
 pub write_node-write_unsigned-requires : goal.write_node-write_unsigned-requires
-write_node-write_unsigned-requires t c =
+write_node-write_unsigned-requires g t c =
     λ e. (reported c.args.node.now _ c.in-Unsigned.ensures.value c.in-Unsigned.ensures.same).0
     (sym c.integer_json.ensures ∙ e)
 
 pub write_node-write_signed-requires : goal.write_node-write_signed-requires
-write_node-write_signed-requires t c =
+write_node-write_signed-requires g t c =
     λ e. rw (to_z-of_z w128 c.in-Signed.n (search rules))
     ((reported c.args.node.now _ c.in-Signed.ensures.value c.in-Signed.ensures.same).0
     (sym c.integer_json-in-Signed.ensures ∙ e))
 
 pub write_node-write_unsigned-requires-in-Compact :
     goal.write_node-write_unsigned-requires-in-Compact
-write_node-write_unsigned-requires-in-Compact t c =
+write_node-write_unsigned-requires-in-Compact g t c =
     λ e. (reported c.args.node.now _ c.in-Compact.ensures.value c.in-Compact.ensures.same).0
     (sym c.compact_json.ensures ∙ e)
 
 pub write_node-write_fields-requires : goal.write_node-write_fields-requires
-write_node-write_fields-requires t c =
+write_node-write_fields-requires g t c =
     let s = c.args.node.now in
     let fs = c.in-Some.fields.now in
     let at = found_is c.composite_fields.ensures.same c.in-Some.is in
-    let few = c.composite_fields.ensures.few in (
+    let few = c.composite_fields.ensures.few in λ κs within. (
       omega arith,
       (
-        c.requires,
+        within,
         (
-          rw (c.requires, c.type_id-ty.ensures.same) (composite_fields_in (shape s.types s.ty) 0 fs
-              at),
+          c.requires,
           (
-            rw c.in-Some.is at few,
-            fields_count s fs c.in-Fields.ensures.value c.in-Fields.ensures.same at,
+            rw (c.requires, c.type_id-ty.ensures.same)
+                (composite_fields_in (shape s.types s.ty) 0 fs at),
+            (
+              rw c.in-Some.is at few,
+              fields_count s fs c.in-Fields.ensures.value c.in-Fields.ensures.same at,
+            ),
           ),
         ),
       ),
     )
 
 pub write_node-unwrap-arm-requires : goal.write_node-unwrap-arm-requires
-write_node-unwrap-arm-requires t c = arm_there c.args.node.now _ c.defined_arm.result
+write_node-unwrap-arm-requires g t c = arm_there c.args.node.now _ c.defined_arm.result
     c.defined_arm.ensures.same (reported c.args.node.now _ c.in-Arm.ensures.value
     c.in-Arm.ensures.same)
 
 pub write_node-write_arm-requires : goal.write_node-write_arm-requires
-write_node-write_arm-requires t c =
+write_node-write_arm-requires g t c =
     let s = c.args.node.now in
     let a = c.unwrap-arm.result.now in
     let at = found_is c.defined_arm.ensures.same c.unwrap-arm.ensures in
-    let few = c.defined_arm.ensures.few in (
+    let few = c.defined_arm.ensures.few in λ κs within. (
       omega arith,
       (
-        c.requires,
+        within,
         (
-          rw (c.requires, c.type_id-ty.ensures.same)
-              (arm_fields_in (shape s.types s.ty) c.in-Arm.arm a at),
+          c.requires,
           (
-            rw c.unwrap-arm.ensures at few,
-            arm_count s c.in-Arm.arm a c.in-Arm.ensures.value c.in-Arm.ensures.same at,
+            rw (c.requires, c.type_id-ty.ensures.same)
+                (arm_fields_in (shape s.types s.ty) c.in-Arm.arm a at),
+            (
+              rw c.unwrap-arm.ensures at few,
+              arm_count s c.in-Arm.arm a c.in-Arm.ensures.value c.in-Arm.ensures.same at,
+            ),
           ),
         ),
       ),
     )
 
 pub write_node-returns-in-Empty-clause-adds : goal.write_node-returns-in-Empty-clause-adds
-write_node-returns-in-Empty-clause-adds t c =
+write_node-returns-in-Empty-clause-adds g t c =
     rw (reported c.args.node.now _ c.in-Empty.ensures.value c.in-Empty.ensures.same)
     c.null.ensures
 
 pub write_node-returns-in-Bool-clause-adds : goal.write_node-returns-in-Bool-clause-adds
-write_node-returns-in-Bool-clause-adds t c =
+write_node-returns-in-Bool-clause-adds g t c =
     rw (reported c.args.node.now _ c.in-Bool.ensures.value c.in-Bool.ensures.same)
     c.boolean.ensures
 
 pub write_node-returns-in-Char-clause-adds : goal.write_node-returns-in-Char-clause-adds
-write_node-returns-in-Char-clause-adds t c =
+write_node-returns-in-Char-clause-adds g t c =
     rw (reported c.args.node.now _ c.in-Char.ensures.value c.in-Char.ensures.same)
     c.write_char.ensures
 
 pub write_node-returns-in-Text-clause-adds : goal.write_node-returns-in-Text-clause-adds
-write_node-returns-in-Text-clause-adds t c = rw (text_is c.args.node.now c.text.result
+write_node-returns-in-Text-clause-adds g t c = rw (text_is c.args.node.now c.text.result
     c.unwrap.result c.text.ensures c.unwrap.ensures
     (reported c.args.node.now _ c.in-Text.ensures.value c.in-Text.ensures.same))
     c.string.ensures
 
 pub write_node-returns-in-Bytes-clause-adds : goal.write_node-returns-in-Bytes-clause-adds
-write_node-returns-in-Bytes-clause-adds t c =
+write_node-returns-in-Bytes-clause-adds g t c =
     rw (bytes_are c.args.node.now c.bytes.result c.unwrap-in-Bytes.result c.bytes.ensures
     c.unwrap-in-Bytes.ensures
     (reported c.args.node.now _ c.in-Bytes.ensures.value c.in-Bytes.ensures.same))
     c.write_bytes.ensures
 
 pub write_node-returns-in-Unsigned-clause-adds : goal.write_node-returns-in-Unsigned-clause-adds
-write_node-returns-in-Unsigned-clause-adds t c = rw (
+write_node-returns-in-Unsigned-clause-adds g t c = rw (
   (reported c.args.node.now _ c.in-Unsigned.ensures.value c.in-Unsigned.ensures.same).1,
   ← c.integer_json.ensures,
 ) c.write_unsigned.ensures
 
 pub write_node-returns-in-Signed-clause-adds : goal.write_node-returns-in-Signed-clause-adds
-write_node-returns-in-Signed-clause-adds t c = rw (
+write_node-returns-in-Signed-clause-adds g t c = rw (
   (reported c.args.node.now _ c.in-Signed.ensures.value c.in-Signed.ensures.same).1,
   ← c.integer_json-in-Signed.ensures,
 ) (rw (to_z-of_z w128 c.in-Signed.n (search rules)) at c.write_signed.ensures)
 
 pub write_node-returns-in-Wide-clause-adds : goal.write_node-returns-in-Wide-clause-adds
-write_node-returns-in-Wide-clause-adds t c =
+write_node-returns-in-Wide-clause-adds g t c =
     rw (reported c.args.node.now _ c.in-Wide.ensures.value c.in-Wide.ensures.same)
     c.write_wide.ensures
 
 pub write_node-returns-in-Compact-clause-adds : goal.write_node-returns-in-Compact-clause-adds
-write_node-returns-in-Compact-clause-adds t c = rw (
+write_node-returns-in-Compact-clause-adds g t c = rw (
   (reported c.args.node.now _ c.in-Compact.ensures.value c.in-Compact.ensures.same).1,
   ← c.compact_json.ensures,
 ) c.write_unsigned-in-Compact.ensures
 
 pub write_node-returns-in-Some-clause-adds : goal.write_node-returns-in-Some-clause-adds
-write_node-returns-in-Some-clause-adds t c =
+write_node-returns-in-Some-clause-adds g t c =
     let s = c.args.node.now in
     let at = found_is c.composite_fields.ensures.same c.in-Some.is in
     rw (fields_are s c.in-Some.fields.now at
     (reported s _ c.in-Fields.ensures.value c.in-Fields.ensures.same)) c.write_fields.ensures.adds
 
 pub write_node-returns-in-None-clause-adds : goal.write_node-returns-in-None-clause-adds
-write_node-returns-in-None-clause-adds t c =
+write_node-returns-in-None-clause-adds g t c =
     let s = c.args.node.now in
     let at = sym c.composite_fields.ensures.same
     ∙ ap (option_map (λ (x : Bor (List Field)). x.now)) c.in-None.is in
@@ -451,18 +460,18 @@ write_node-returns-in-None-clause-adds t c =
     ) c.write_items.ensures.adds
 
 pub write_node-returns-in-Arm-clause-adds : goal.write_node-returns-in-Arm-clause-adds
-write_node-returns-in-Arm-clause-adds t c =
+write_node-returns-in-Arm-clause-adds g t c =
     let s = c.args.node.now in
     let at = found_is c.defined_arm.ensures.same c.unwrap-arm.ensures in
     rw (arm_is s c.in-Arm.arm c.unwrap-arm.result.now at
     (reported s _ c.in-Arm.ensures.value c.in-Arm.ensures.same)) c.write_arm.ensures.adds
 
 pub write_node-returns-in-List-clause-adds : goal.write_node-returns-in-List-clause-adds
-write_node-returns-in-List-clause-adds t c =
+write_node-returns-in-List-clause-adds g t c =
     rw (reported c.args.node.now _ c.in-List.ensures.value c.in-List.ensures.same)
     c.write_items-in-List.ensures.adds
 
 pub write_node-returns-in-Count-clause-adds : goal.write_node-returns-in-Count-clause-adds
-write_node-returns-in-Count-clause-adds t c =
+write_node-returns-in-Count-clause-adds g t c =
     rw (reported c.args.node.now _ c.in-Count.ensures.value c.in-Count.ensures.same)
     c.write_count.ensures

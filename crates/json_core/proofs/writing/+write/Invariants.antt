@@ -18,34 +18,34 @@ use Rattle.json_core.proofs.Ordered.{IsNamedAt}
 use Rattle.json_core.proofs.writing.+write.Given as goal
 
 abbrev pub decreases-write_node : goal.decreases-write_node
-decreases-write_node l = 4 * nodes l.node.now.tree + 3
+decreases-write_node g l = 4 * nodes l.node.now.tree + 3
 
 abbrev pub decreases-write_child : goal.decreases-write_child
-decreases-write_child l = 4 * nodes l.node.now.tree
+decreases-write_child g l = 4 * nodes l.node.now.tree
 
 abbrev pub decreases-write_fields : goal.decreases-write_fields
-decreases-write_fields l = 4 * nodes l.node.now.tree + 2
+decreases-write_fields g l = 4 * nodes l.node.now.tree + 2
 
 abbrev pub decreases-write_arm : goal.decreases-write_arm
-decreases-write_arm l = 4 * nodes l.node.now.tree + 2
+decreases-write_arm g l = 4 * nodes l.node.now.tree + 2
 
 abbrev pub decreases-write_items : goal.decreases-write_items
-decreases-write_items l = 4 * nodes l.node.now.tree + 1
+decreases-write_items g l = 4 * nodes l.node.now.tree + 1
 
 abbrev pub decreases-write_each : goal.decreases-write_each
-decreases-write_each l = 4 * nodes l.node.now.tree
+decreases-write_each g l = 4 * nodes l.node.now.tree
 
 abbrev pub decreases-write_in_order : goal.decreases-write_in_order
-decreases-write_in_order l = 4 * nodes l.node.now.tree + 1
+decreases-write_in_order g l = 4 * nodes l.node.now.tree + 1
 
 abbrev pub decreases-write_sorted : goal.decreases-write_sorted
-decreases-write_sorted l = 4 * nodes l.node.now.tree + 1
+decreases-write_sorted g l = 4 * nodes l.node.now.tree + 1
 
 -- what is left to write, after what is written
 abbrev pub invariant-write_each-children : goal.invariant-write_each-children
-invariant-write_each-children l = record {
-  can : (goal.iterator-write_each-children).can_next l.child-iterator;
-  ends : (goal.iterator-write_each-children).is_finite l.child-iterator;
+invariant-write_each-children g l = record {
+  can : (goal.iterator-write_each-children g).can_next l.child-iterator;
+  ends : (goal.iterator-write_each-children g).is_finite l.child-iterator;
   reported : prints l.out (items_tokens (items_outline (items_of (map json_seen l.child-iterator))))
       ≡ prints l.initial.out
       (items_tokens (items_outline (items_of (map json_seen (children_of l.node)))));
@@ -54,9 +54,9 @@ invariant-write_each-children l = record {
 }
 
 abbrev pub invariant-write_in_order-members : goal.invariant-write_in_order-members
-invariant-write_in_order-members l = record {
-  can : (goal.iterator-write_in_order-members).can_next l.field-iterator;
-  ends : (goal.iterator-write_in_order-members).is_finite l.field-iterator;
+invariant-write_in_order-members g l = record {
+  can : (goal.iterator-write_in_order-members g).can_next l.field-iterator;
+  ends : (goal.iterator-write_in_order-members g).is_finite l.field-iterator;
   named : AreNamed (iter_rest l.field-iterator.a);
   plain : OnPlain l.escapes (AllPlain (iter_rest l.field-iterator.a));
   reported : prints l.out (members_tokens (members_outline
@@ -69,7 +69,7 @@ invariant-write_in_order-members l = record {
 
 -- the positions that are left of the order
 abbrev pub invariant-write_sorted-members : goal.invariant-write_sorted-members
-invariant-write_sorted-members l =
+invariant-write_sorted-members g l =
     let order = slice_range l.fn.orders.positions l.start (l.start + length l.fields) in
     record {
       named : AllByRecursion (IsNamedAt l.fields) (drop l.turn order);

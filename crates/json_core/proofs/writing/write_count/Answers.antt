@@ -6,7 +6,7 @@ use Rattle.json_core.proofs.Turns.{count_whole}
 use Rattle.json_core.proofs.writing.write_count.Goals as goal
 
 pub returns : goal.returns
-returns c = on_ok_weaker c.end_object.result (λ e. count_whole c.args.out.now
+returns g c = on_ok_weaker c.end_object.result (λ e. count_whole c.args.out.now
     c.begin_member.new.self c.unsigned.new.self c.end_object.new.self
     (codes "count") (decimal c.args.count) c.in_ok-begin_member.ensures
     (c.in_ok-unsigned.ensures

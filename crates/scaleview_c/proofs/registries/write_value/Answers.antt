@@ -1,26 +1,20 @@
-use Rattle.std.proofs.Common.{Ok, Err, ap, ◌∙◌, length, option_map, rules}
-use Rattle.json_core.specs.Json.{json_text}
-use Rattle.scale_calls.specs.declared.refusal.ValueRefusal.TheVariants as value
-use Rattle.scaleview_c.specs.Codes.{text_answer}
+use Rattle.std.proofs.Common.{Err, refl, rules}
+use Rattle.scaleview_c.proofs.Written.{no_memory, value_written}
 use Rattle.scaleview_c.proofs.registries.write_value.Goals as goal
 
-pub returns-in-Ok-json_to_slice : goal.returns-in-Ok-json_to_slice
-returns-in-Ok-json_to_slice c = (
-  Ok (json_text c.in-Ok.value),
-  (c.in-Ok.ensures.0, ap (option_map json_text) c.in-Ok.ensures.1),
-  (
-    c.in-Ok-json_to_slice.ensures.ok,
-    c.of_text.ensures
-        ∙ ap (λ n. text_answer n (length c.args.out.now)) c.in-Ok-json_to_slice.ensures.len,
-  ),
-)
+pub returns-in_default : goal.returns-in_default
+returns-in_default c =
+    no_memory c.args.opened.now c.args.id c.args.limits _ _ _ _ (refl, c.plain.ensures)
 
-pub returns-in-Ok : goal.returns-in-Ok
-returns-in-Ok c = (
-  Err value.Memory,
-  tt,
-  (c.in-Err-json_to_slice.ensures.err, c.of_value.ensures),
-)
+pub returns-in_default-clone : goal.returns-in_default-clone
+returns-in_default-clone c =
+    no_memory c.args.opened.now c.args.id c.args.limits _ _ _ _
+    (refl, c.plain-in_default-clone.ensures)
+
+pub returns-in-Ok-read_value : goal.returns-in-Ok-read_value
+returns-in-Ok-read_value c =
+    value_written c.args.opened.now c.args.id c.args.limits c.args.bytes.now _ _
+    c.in-Ok-read_value.value _ c.in-Ok-read_value.ensures c.put_json.ensures
 
 pub returns : goal.returns
 returns c = (Err c.in-Err.refusal, c.in-Err.ensures, search rules)

@@ -6,12 +6,12 @@ use Rattle.token_core.proofs.Outputs.{first_array, prints_again}
 use Rattle.token_core.proofs.output.Output.begin_array_member.Goals as goal
 
 pub returns-then-is_plain : goal.returns-then-is_plain
-returns-then-is_plain c = on_ok_weaker c.put_plain.result
+returns-then-is_plain g c = on_ok_weaker c.put_plain.result
     (λ e. e ∙ first_array c.args.self.now c.args.name.now c.if-is_plain.ensures)
     c.put_plain.ensures
 
 pub returns : goal.returns
-returns c =
+returns g c =
     let w = c.args.self.now in
     let k = key c.args.name.now in
     let begun = c.in_ok-escaped_key.ensures

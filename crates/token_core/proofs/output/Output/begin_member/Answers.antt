@@ -6,12 +6,12 @@ use Rattle.token_core.proofs.Outputs.{first_key, prints_again}
 use Rattle.token_core.proofs.output.Output.begin_member.Goals as goal
 
 pub returns-then-is_plain : goal.returns-then-is_plain
-returns-then-is_plain c = on_ok_weaker c.put_plain.result
+returns-then-is_plain g c = on_ok_weaker c.put_plain.result
     (λ e. e ∙ first_key c.args.self.now c.args.name.now c.if-is_plain.ensures)
     c.put_plain.ensures
 
 pub returns : goal.returns
-returns c = on_ok_weaker c.escaped_key.result (λ e. e
+returns g c = on_ok_weaker c.escaped_key.result (λ e. e
     ∙ ap (λ w. prints w (key c.args.name.now ∷ [])) c.in_ok-begin_object.ensures
     ∙ prints_again c.args.self.now (begin_object ∷ []) (key c.args.name.now ∷ []))
     c.escaped_key.ensures

@@ -4,4 +4,4 @@ use Rattle.token_core.proofs.Outputs.{begun}
 use Rattle.token_core.proofs.output.Output.begin_object.Goals as goal
 
 pub returns : goal.returns
-returns c = begun c.put.result c.args.self.now _ _ begin_object refl refl c.put.ensures
+returns g c = begun c.put.result c.args.self.now _ _ begin_object refl refl c.put.ensures

@@ -6,7 +6,7 @@ use Rattle.token_core.proofs.output.Output.boolean.Goals.{then-x, else-x}
 use Rattle.token_core.proofs.output.Output.boolean.Goals as goal
 
 pub returns : goal.returns
-returns c =
+returns g c =
     let says : c.if-x.put.now ≡ token_text (boolean c.args.x) = elim c.if-x.branch [
       | then-x w ↦ ap (λ s. s.now) w.put-is ∙ ap (λ b. token_text (boolean b)) (sym w.if-x.true)
       | else-x w ↦ ap (λ s. s.now) w.put-is ∙ ap (λ b. token_text (boolean b)) (sym w.if-x.false)

@@ -4,4 +4,4 @@ use Rattle.token_core.proofs.Outputs.{ended}
 use Rattle.token_core.proofs.output.Output.end_array.Goals as goal
 
 pub returns : goal.returns
-returns c = ended c.put.result c.args.self.now _ end_array refl c.put.ensures
+returns g c = ended c.put.result c.args.self.now _ end_array refl c.put.ensures

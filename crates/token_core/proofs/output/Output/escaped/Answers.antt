@@ -6,7 +6,7 @@ use Rattle.token_core.proofs.Outputs.{written, printed_alone}
 use Rattle.token_core.proofs.output.Output.escaped.Goals as goal
 
 pub returns : goal.returns
-returns c =
+returns g c =
     let t = string c.args.text.now in
     let empty : c.clear.new.self.items ≡ [] = search rules in
     let front = c.in_ok-string.ensures.room.0 ∙ c.new-escaped.ensures.before

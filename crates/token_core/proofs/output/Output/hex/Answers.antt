@@ -5,7 +5,7 @@ use Rattle.token_core.proofs.Outputs.{comma_short, hex_utf8, token_after, utf8_a
 use Rattle.token_core.proofs.output.Output.hex.Goals as goal
 
 pub place_hex_text-self-inside-requires : goal.place_hex_text-self-inside-requires
-place_hex_text-self-inside-requires c =
+place_hex_text-self-inside-requires g c =
     let digits : c.in-Some.digits ≡ 2 * length c.args.bytes.now = search rules in
     let room : c.in-Some-checked_add.room ≡ c.in-Some.digits + 5 = search rules in
     omega (
@@ -20,14 +20,14 @@ place_hex_text-self-inside-requires c =
     )
 
 pub invariant_of-self-2 : goal.invariant_of-self-2
-invariant_of-self-2 c = utf8_after c.self.inside.bytes.items c.self.inside.after_value
+invariant_of-self-2 g c = utf8_after c.self.inside.bytes.items c.self.inside.after_value
     c.in_ok-make_room.ensures.same c.as_mut_slice-buffer.ensures.value
     c.as_mut_slice-buffer.ensures.len c.place_comma-at.ensures
     c.place_hex_text-self-inside.ensures.placed c.self.invariant c.in_ok-make_room.ensures.kept
     (hex_utf8 c.args.bytes.now c.type_inv.bytes)
 
 pub returns : goal.returns
-returns c = token_after c.self.inside.bytes.items c.self.inside.after_value
+returns g c = token_after c.self.inside.bytes.items c.self.inside.after_value
     c.in_ok-make_room.ensures.same c.as_mut_slice-buffer.ensures.value
     c.as_mut_slice-buffer.ensures.len c.place_comma-at.ensures
     c.place_hex_text-self-inside.ensures.placed c.args.self.now

@@ -3,7 +3,7 @@ use Rattle.token_core.proofs.Outputs.{utf8_after}
 use Rattle.token_core.proofs.output.Output.put_plain.Goals as goal
 
 pub invariant_of-self-2 : goal.invariant_of-self-2
-invariant_of-self-2 c = utf8_after c.self.inside.bytes.items _
+invariant_of-self-2 g c = utf8_after c.self.inside.bytes.items _
     c.in_ok-make_room.ensures.same c.as_mut_slice-buffer.ensures.value
     c.as_mut_slice-buffer.ensures.len c.place_comma-at.ensures
     c.place_between-self-inside.ensures.placed c.self.invariant c.in_ok-make_room.ensures.kept

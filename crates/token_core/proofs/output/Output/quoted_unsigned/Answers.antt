@@ -9,7 +9,7 @@ use Rattle.token_core.proofs.Outputs.{token_after, utf8_after}
 use Rattle.token_core.proofs.output.Output.quoted_unsigned.Goals as goal
 
 pub place_byte-self-inside-requires : goal.place_byte-self-inside-requires
-place_byte-self-inside-requires c =
+place_byte-self-inside-requires g c =
     let short : length (decimal c.args.n) ≤ 39 =
     length-decimal-le_wide 39 c.args.n (omega arith) (omega arith) (omega arith) in
     omega (
@@ -27,7 +27,7 @@ place_byte-self-inside-requires c =
     )
 
 pub invariant_of-self-2 : goal.invariant_of-self-2
-invariant_of-self-2 c =
+invariant_of-self-2 g c =
     let quote = IsUtf8-are_ascii (34 ∷ []) refl in
     let digits = IsUtf8-from_ascii _ (IsAscii-decimal_wide c.args.n (search rules)) in
     utf8_after c.self.inside.bytes.items c.self.inside.after_value
@@ -39,7 +39,7 @@ invariant_of-self-2 c =
     (IsUtf8-append _ _ quote (IsUtf8-append _ _ digits quote))
 
 pub returns : goal.returns
-returns c = token_after c.self.inside.bytes.items c.self.inside.after_value
+returns g c = token_after c.self.inside.bytes.items c.self.inside.after_value
     c.in_ok-make_room.ensures.same c.as_mut_slice-buffer.ensures.value
     c.as_mut_slice-buffer.ensures.len c.place_comma-at.ensures (Placed-then
     c.place_byte-first.ensures

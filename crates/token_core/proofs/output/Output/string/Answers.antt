@@ -4,6 +4,6 @@ use Rattle.token_core.proofs.Outputs.{begun, plain_string}
 use Rattle.token_core.proofs.output.Output.string.Goals as goal
 
 pub returns-then-is_plain : goal.returns-then-is_plain
-returns-then-is_plain c = begun c.put_plain.result c.args.self.now _ _
+returns-then-is_plain g c = begun c.put_plain.result c.args.self.now _ _
     (string c.args.text.now) (plain_string c.args.text.now c.if-is_plain.ensures) refl
     c.put_plain.ensures

@@ -6,14 +6,14 @@ use Rattle.token_core.proofs.Outputs.{token_after, utf8_after}
 use Rattle.token_core.proofs.output.Output.unsigned.Goals as goal
 
 pub invariant_of-self-2 : goal.invariant_of-self-2
-invariant_of-self-2 c = utf8_after c.self.inside.bytes.items c.self.inside.after_value
+invariant_of-self-2 g c = utf8_after c.self.inside.bytes.items c.self.inside.after_value
     c.in_ok-make_room.ensures.same c.as_mut_slice-buffer.ensures.value
     c.as_mut_slice-buffer.ensures.len c.place_comma-at.ensures
     c.place_decimal-self-inside.ensures c.self.invariant c.in_ok-make_room.ensures.kept
     (IsUtf8-from_ascii _ (IsAscii-decimal c.args.n (search rules)))
 
 pub returns : goal.returns
-returns c = token_after c.self.inside.bytes.items c.self.inside.after_value
+returns g c = token_after c.self.inside.bytes.items c.self.inside.after_value
     c.in_ok-make_room.ensures.same c.as_mut_slice-buffer.ensures.value
     c.as_mut_slice-buffer.ensures.len c.place_comma-at.ensures
     c.place_decimal-self-inside.ensures c.args.self.now (number (decimal c.args.n)) c.self.view_is

@@ -1,0 +1,111 @@
+//! A budget of bytes over another allocator.
+
+ghost use Rattle.std.specs.Prelude.{IfOk, ◌≡◌, ◌+◌, ◌^◌, ◌-◌, ◌<◌, MatchOption, min};
+
+use std::alloc::{AllocError, Allocator};
+use std::cell::Cell;
+use std::rc::Rc;
+
+/// An allocator that hands out no more than a number of bytes at once.
+///
+/// It passes requests on to another allocator, and refuses those for more bytes than are left. A
+/// block that is freed gives its bytes back. All clones of a budget share what is left of it.
+///
+/// A collection that grows takes its new block before it frees the old one, so both count then.
+pub struct Budget<B: Allocator> {
+    inner: B,
+    left: Rc<Cell<u64>, B>,
+}
+
+impl<B: Allocator + Clone> Budget<B> {
+    /// Creates a budget of this many bytes over another allocator. 0 stands for no budget: only the
+    /// other allocator refuses then.
+    ///
+    /// The count of the bytes that are left is allocated too, and is not part of the budget.
+    ///
+    /// # Errors
+    ///
+    /// `AllocError` if the allocation of the count fails, or a clone of `alloc`.
+    pub fn new(alloc: B, bytes: u64) -> Result<Budget<B>, AllocError>
+        ensures { IfOk result (λ budget. budget.inner ≡ alloc) }
+    {
+        let left = Rc::new(alloc.clone()?, Cell::new(allowed(bytes)))?;
+        Ok(Budget { inner: alloc, left })
+    }
+}
+
+impl<B: Allocator> Drop for Budget<B> {
+    fn drop(self) {
+        let Self { inner: _, left: _ } = self;
+    }
+}
+
+impl<B: Allocator + Clone> Clone for Budget<B> {
+    ghost is_clone = { λ budget copy. B.is_clone budget.inner copy.inner };
+
+    fn clone(&self) -> Result<Budget<B>, AllocError> {
+        let inner = self.inner.clone()?;
+        let left = self.left.clone()?;
+        Ok(Budget { inner, left })
+    }
+}
+
+/// Returns how many bytes a budget has at first, where 0 stands for no budget.
+fn allowed(bytes: u64) -> u64
+    ensures none { bytes ≡ 0 → result ≡ 2 ^ 64 - 1 }
+    ensures given { 0 < bytes → result ≡ bytes }
+{
+    if bytes == 0 { u64::MAX } else { bytes }
+}
+
+/// Returns how many bytes are left after a request for `size` of them, or `None` if fewer are left.
+fn after_taking(left: u64, size: u64) -> Option<u64>
+    ensures { MatchOption result (left < size) (λ rest. rest + size ≡ left) }
+{
+    left.checked_sub(size)
+}
+
+/// Returns how many bytes are left once `size` of them are back. A count of 2^64 - 1 stays.
+fn after_return(left: u64, size: u64) -> u64
+    ensures { result ≡ min (left + size) (2 ^ 64 - 1) }
+{
+    left.saturating_add(size)
+}
+
+/// Takes `size` bytes from those that are left. Returns `false`, and takes none, if fewer are left.
+fn take<B: Allocator>(left: &Rc<Cell<u64>, B>, size: usize) -> bool {
+    match after_taking(left.get(), size as u64) {
+        Some(rest) => {
+            left.set(rest);
+            true
+        }
+        None => false,
+    }
+}
+
+/// Gives `size` bytes back to those that are left.
+fn give_back<B: Allocator>(left: &Rc<Cell<u64>, B>, size: usize) {
+    left.set(after_return(left.get(), size as u64));
+}
+
+unsafe impl<B: Allocator> Allocator for Budget<B> {
+    ghost dealloc_token = { λ budget ty ptr. B.dealloc_token budget.inner ty ptr };
+
+    fn allocate(&self, size: usize, align: usize) -> Result<*mut u8, AllocError> {
+        if !take(&self.left, size) {
+            return Err(AllocError);
+        }
+        match self.inner.allocate(size, align) {
+            Ok(block) => Ok(block),
+            Err(_) => {
+                give_back(&self.left, size);
+                Err(AllocError)
+            }
+        }
+    }
+
+    unsafe fn deallocate(&self, ptr: *mut u8, size: usize, align: usize) {
+        give_back(&self.left, size);
+        self.inner.deallocate(ptr, size, align);
+    }
+}
