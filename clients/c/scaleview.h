@@ -50,6 +50,7 @@ enum scaleview_code {
 
     SCALEVIEW_UNKNOWN_TYPE = 201,       /* the registry has no type at this position */
     SCALEVIEW_LIMIT_OUT_OF_RANGE = 202, /* a limit is above 1024 for the depth, or above 2^40 for the bytes */
+    SCALEVIEW_UNKNOWN_PART = 203,       /* the type has no such field, member or arm */
 
     /* The value's bytes are rejected, at `at`. */
     SCALEVIEW_VALUE_TRUNCATED = 301,
@@ -67,11 +68,62 @@ enum scaleview_code {
     SCALEVIEW_VALUE_TRAILING_BYTES = 313 /* bytes follow the value, which ends at `at` */
 };
 
+/* The kinds of types, in the order of scale-info's TypeDef. */
+enum scaleview_kind {
+    SCALEVIEW_COMPOSITE = 0,
+    SCALEVIEW_VARIANT = 1,
+    SCALEVIEW_SEQUENCE = 2,
+    SCALEVIEW_ARRAY = 3,
+    SCALEVIEW_TUPLE = 4,
+    SCALEVIEW_PRIMITIVE = 5,
+    SCALEVIEW_COMPACT = 6,
+    SCALEVIEW_BIT_SEQUENCE = 7
+};
+
+/* How many bytes the values of a type take. */
+enum scaleview_class {
+    SCALEVIEW_NO_VALUE = 0, /* the type has no finite value */
+    SCALEVIEW_EMPTY = 1,    /* the type has one value, of no bytes */
+    SCALEVIEW_SIZED = 2     /* the values take bytes */
+};
+
+/* The primitive types, in the order of scale-info's TypeDefPrimitive. */
+enum scaleview_primitive {
+    SCALEVIEW_BOOL = 0,
+    SCALEVIEW_CHAR = 1,
+    SCALEVIEW_STR = 2,
+    SCALEVIEW_U8 = 3,
+    SCALEVIEW_U16 = 4,
+    SCALEVIEW_U32 = 5,
+    SCALEVIEW_U64 = 6,
+    SCALEVIEW_U128 = 7,
+    SCALEVIEW_U256 = 8,
+    SCALEVIEW_I8 = 9,
+    SCALEVIEW_I16 = 10,
+    SCALEVIEW_I32 = 11,
+    SCALEVIEW_I64 = 12,
+    SCALEVIEW_I128 = 13,
+    SCALEVIEW_I256 = 14
+};
+
+/* What a type is. Numbers are 0 unless the kind gives them a meaning. Types are given by their positions in the registry. */
+typedef struct scaleview_type_shape {
+    uint32_t kind;        /* of enum scaleview_kind */
+    uint32_t value_class; /* of enum scaleview_class */
+    uint32_t primitive;   /* of enum scaleview_primitive, if the kind is SCALEVIEW_PRIMITIVE */
+    uint32_t element;     /* the type of a sequence's or an array's elements, a compact's target, or a bit sequence's store */
+    uint32_t order;       /* the type that names the order of a bit sequence */
+    uint32_t length;      /* the number of elements of an array */
+    uint32_t parts;       /* the number of fields of a composite, of members of a tuple, or of arms of a variant */
+} scaleview_type_shape;
+
 /* What a call reports besides its code, which is repeated here. Numbers are 0 unless the code gives them a meaning. */
 typedef struct scaleview_answer {
     uint32_t code;
-    uint32_t from;   /* the position of the type that has the unknown reference; the version of an open registry's metadata */
-    uint64_t at;     /* the place of a refusal, or where an open registry ends, in bytes from the start of the input */
+    uint32_t from;   /* the position of the type that has the unknown reference; the version of an open registry's metadata;
+                      * the type of a part; or the index of an arm */
+    uint64_t at;     /* the place of a refusal, or where an open registry ends, in bytes from the start of the input; 1 if a
+                      * part has a name; the number of an arm's fields; or the position of a type */
     uint64_t length; /* the number of bytes of a text, of types, or of bytes of a piece that belong to the value */
 } scaleview_answer;
 
@@ -111,6 +163,50 @@ uint32_t scaleview_types(scaleview_registry registry, scaleview_answer *answer);
  * unchanged. */
 uint32_t scaleview_type_line(scaleview_registry registry, uint32_t type, uint8_t *out, size_t room,
                              scaleview_answer *answer);
+
+/* Reports what the registry's type at this position is, in `shape`.
+ *
+ * Otherwise it returns SCALEVIEW_UNKNOWN_TYPE or SCALEVIEW_NO_HANDLE, and `shape` is unchanged. */
+uint32_t scaleview_type(scaleview_registry registry, uint32_t type, scaleview_type_shape *shape,
+                        scaleview_answer *answer);
+
+/* Reports the field of a composite, or the member of a tuple, at the position `part`: `answer->from` is its type,
+ * `answer->at` is 1 if it has a name and otherwise 0, and `answer->length` is the number of bytes of the name. The name is
+ * written to the front of `out`: UTF-8, without a terminating 0. A member of a tuple and a field of a tuple struct have none.
+ *
+ * After SCALEVIEW_NO_ROOM the numbers are the same, and `out` is unchanged. Otherwise the call returns
+ * SCALEVIEW_UNKNOWN_TYPE, SCALEVIEW_NO_HANDLE, or SCALEVIEW_UNKNOWN_PART if the type is neither a composite nor a tuple or has
+ * no more parts, and `out` is unchanged. */
+uint32_t scaleview_part(scaleview_registry registry, uint32_t type, uint32_t part, uint8_t *out, size_t room,
+                        scaleview_answer *answer);
+
+/* Reports the arm of a variant at the position `arm`: `answer->from` is its index, which is the first byte of its values,
+ * `answer->at` is the number of its fields, and `answer->length` is the number of bytes of its name. The name is written to
+ * the front of `out`: UTF-8, without a terminating 0.
+ *
+ * After SCALEVIEW_NO_ROOM the numbers are the same, and `out` is unchanged. Otherwise the call returns
+ * SCALEVIEW_UNKNOWN_TYPE, SCALEVIEW_NO_HANDLE, or SCALEVIEW_UNKNOWN_PART if the type is no variant or has no more arms, and
+ * `out` is unchanged. */
+uint32_t scaleview_arm(scaleview_registry registry, uint32_t type, uint32_t arm, uint8_t *out, size_t room,
+                       scaleview_answer *answer);
+
+/* Reports the field, at the position `field`, of the arm of a variant at the position `arm`, as scaleview_part does. It
+ * returns SCALEVIEW_UNKNOWN_PART if the type is no variant, or has no such arm, or the arm no such field. */
+uint32_t scaleview_arm_field(scaleview_registry registry, uint32_t type, uint32_t arm, uint32_t field, uint8_t *out,
+                             size_t room, scaleview_answer *answer);
+
+/* Writes the path of the registry's type at this position to the front of `out`, its segments joined by "::". It is UTF-8 of
+ * `answer->length` bytes, without a terminating 0; a type without a path has no byte.
+ *
+ * Otherwise it returns SCALEVIEW_NO_ROOM, SCALEVIEW_UNKNOWN_TYPE, SCALEVIEW_MEMORY or SCALEVIEW_NO_HANDLE, and `out` is
+ * unchanged. */
+uint32_t scaleview_path(scaleview_registry registry, uint32_t type, uint8_t *out, size_t room, scaleview_answer *answer);
+
+/* Finds the first type, from the position `from` on, whose path is these bytes, as scaleview_path writes it, and reports its
+ * position in `answer->at`. To find all types of a path, call it again from the next position. No bytes find the first type
+ * without a path. Otherwise it returns SCALEVIEW_UNKNOWN_TYPE or SCALEVIEW_NO_HANDLE. */
+uint32_t scaleview_find(scaleview_registry registry, uint32_t from, const uint8_t *path, size_t length,
+                        scaleview_answer *answer);
 
 /* Decodes the value, of the type at this position, that all the bytes spell, and writes its JSON to the front of `out`: UTF-8
  * of `answer->length` bytes, without a terminating 0. The value has at most `limit` bytes, up to 2^40, and no part of it is

@@ -1,3 +1,4 @@
 pub mod Decoded
+pub mod PathTexts
 pub mod Registries
 pub mod TypeLines

@@ -1,3 +1,4 @@
+pub mod Describing
 pub mod Lines
 pub mod Opened
 pub mod Refused

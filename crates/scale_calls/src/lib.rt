@@ -1,12 +1,16 @@
-//! What callers do with complete bytes: open a registry, show its types, and turn a value into
-//! JSON. It knows no files, processes or pointers.
+//! What callers do with complete bytes: open a registry, show and describe its types, and turn a
+//! value into JSON. It knows no files, processes or pointers.
 #![tactic(auto)]
 
+mod describing;
 mod lines;
 mod refusal;
 mod registry;
 mod value;
 
+pub use describing::{
+    Part, PartRefusal, arm_field, find_type, type_arm, type_definition, type_part, type_path,
+};
 pub use lines::{push_type_lines, type_line, version_line};
 pub use refusal::{RegistryRefusal, UnknownReference, ValueRefusal};
 pub use registry::{OpenedRegistry, open_registry};

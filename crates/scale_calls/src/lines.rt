@@ -62,7 +62,7 @@ fn kind_name(shape: &TypeDef) -> &'static str
 }
 
 /// Joins the segments of a path by `::`.
-fn joined(alloc: Global, segments: &[Text]) -> Result<String, AllocError>
+pub(crate) fn joined(alloc: Global, segments: &[Text]) -> Result<String, AllocError>
     ensures { IfOk result (λ path. string_bytes path ≡ joined_segments segments.now) }
 {
     let Some((first, others)) = segments.split_first() else {

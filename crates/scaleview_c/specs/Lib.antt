@@ -3,3 +3,4 @@ pub mod Codes
 pub mod Names
 pub mod Kept
 pub mod Owned
+pub mod Types

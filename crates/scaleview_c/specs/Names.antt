@@ -21,7 +21,7 @@ of_registry = registry.reason_name types.Truncated ∷ registry.reason_name type
 
 -- those from 201 on
 abbrev pub of_opening : List (List ℕ)
-of_opening = codes "UnknownType" ∷ codes "LimitOutOfRange" ∷ []
+of_opening = codes "UnknownType" ∷ codes "LimitOutOfRange" ∷ codes "UnknownPart" ∷ []
 
 -- those from 301 on: the reasons of a value, and one more
 abbrev pub of_value : List (List ℕ)
@@ -39,7 +39,7 @@ code_name code = if nat_le code 6 then slice_index_or calls code []
     else if nat_le code 100 then []
     else if nat_le code 112 then slice_index_or of_registry (code - 101) []
     else if nat_le code 200 then []
-    else if nat_le code 202 then slice_index_or of_opening (code - 201) []
+    else if nat_le code 203 then slice_index_or of_opening (code - 201) []
     else if nat_le code 300 then []
     else if nat_le code 313 then slice_index_or of_value (code - 301) []
     else []

@@ -26,6 +26,8 @@ pub const NO_HANDLE: u32 = 5;
 pub const TAKEN: u32 = 6;
 /// The registry has no type at the position.
 pub const UNKNOWN_TYPE: u32 = 201;
+/// The type has no such part.
+pub const UNKNOWN_PART: u32 = 203;
 
 /// What a call reports: its code, and numbers, which are 0 unless the code gives them a meaning.
 #[repr(C)]

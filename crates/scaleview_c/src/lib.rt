@@ -14,3 +14,4 @@ mod resource;
 mod session;
 mod sessions;
 mod text;
+mod types;

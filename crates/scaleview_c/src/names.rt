@@ -38,8 +38,8 @@ const REGISTRY: [&str; 12] = [
     "UnknownType",
 ];
 
-/// The names of the codes from 201 on, which say why no value is begun.
-const OPENING: [&str; 2] = ["UnknownType", "LimitOutOfRange"];
+/// The names of the codes from 201 on, which reject a type, a limit or a part.
+const OPENING: [&str; 3] = ["UnknownType", "LimitOutOfRange", "UnknownPart"];
 
 /// The names of the codes from 301 on, which say why bytes hold no value.
 const VALUE: [&str; 13] = [
@@ -65,7 +65,7 @@ fn code_name(code: u32) -> &'static str
     match code {
         0..=6 => CALLS[code as usize],
         101..=112 => REGISTRY[code as usize - 101],
-        201..=202 => OPENING[code as usize - 201],
+        201..=203 => OPENING[code as usize - 201],
         301..=313 => VALUE[code as usize - 301],
         _ => "",
     }

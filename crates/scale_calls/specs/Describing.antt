@@ -1,0 +1,96 @@
+-- What the types of a registry are: their definitions, parts, arms and paths.
+use Rattle.std.specs.Prelude.{◌≡◌, ◌≢◌, ◌≤◌, ◌<◌, ℕ, List, slice_get}
+use Rattle.std.specs.Prelude.{Option, Some, None, ok_or, option_copied, option_map}
+use Rattle.std.specs.Prelude.{Result, Ok, Err}
+use Rattle.std.specs.Borrow.{Bor}
+use Rattle.registry_core.specs.declared.definition.Arm.{Arm}
+use Rattle.registry_core.specs.declared.definition.Field.{Field}
+use Rattle.registry_core.specs.declared.definition.TypeDef.{TypeDef}
+use Rattle.registry_core.specs.declared.definition.TypeDef.TheVariants as definition
+use Rattle.registry_core.specs.declared.type_id.TypeId.{TypeId}
+use Rattle.registry_core.specs.declared.type_info.TypeInfo.{TypeInfo}
+use Rattle.widths_core.specs.declared.class.Class.{Class}
+use Rattle.widths_core.specs.Classes.{class_of}
+use Rattle.scale_calls.specs.Lines.{joined_segments}
+use Rattle.scale_calls.specs.declared.describing.Part.{Part}
+use Rattle.scale_calls.specs.declared.describing.PartRefusal.{PartRefusal}
+use Rattle.scale_calls.specs.declared.describing.PartRefusal.TheVariants as refusal
+
+-- the class and the definition of the type at a position
+abbrev pub type_definition : List TypeInfo → ℕ → Option (Class × TypeDef)
+type_definition r id = option_map (λ x. (class_of r id, x.shape)) (slice_get r id)
+
+-- the same, of what is lent
+abbrev pub seen_definition : Class × Bor TypeDef → Class × TypeDef
+seen_definition x = (x.0, x.1.now)
+
+-- a part: its name, if it has one, and the position of its type
+abbrev pub Named : Type 0
+Named = Option (List ℕ) × ℕ
+
+-- what a part that is lent says
+abbrev pub seen : Part → Named
+seen part = (option_copied part.name, part.ty)
+
+abbrev pub field_part : Field → Named
+field_part field = (field.name, field.ty.0)
+
+abbrev pub member_part : TypeId → Named
+member_part member = (None, member.0)
+
+-- the field or member at a position of a definition
+abbrev pub part_of : TypeDef → ℕ → Option Named
+part_of (definition.Composite fields) i = option_map field_part (slice_get fields i)
+part_of (definition.Variant arms) i = None
+part_of (definition.Sequence element) i = None
+part_of (definition.Array len element) i = None
+part_of (definition.Tuple members) i = option_map member_part (slice_get members i)
+part_of (definition.Primitive p) i = None
+part_of (definition.Compact target) i = None
+part_of (definition.BitSequence store order) i = None
+
+-- the arm at a position of a definition
+abbrev pub arm_of : TypeDef → ℕ → Option Arm
+arm_of (definition.Composite fields) i = None
+arm_of (definition.Variant arms) i = slice_get arms i
+arm_of (definition.Sequence element) i = None
+arm_of (definition.Array len element) i = None
+arm_of (definition.Tuple members) i = None
+arm_of (definition.Primitive p) i = None
+arm_of (definition.Compact target) i = None
+arm_of (definition.BitSequence store order) i = None
+
+abbrev pub result_map : {X Y E : Type 0} → (X → Y) → Result X E → Result Y E
+result_map f (Ok x) = Ok (f x)
+result_map f (Err e) = Err e
+
+-- what a type has, where there is a type
+abbrev pub in_type : {X : Type 0} → (TypeDef → Option X) → Option TypeInfo → Result X PartRefusal
+in_type find (Some info) = ok_or (find info.shape) refusal.UnknownPart
+in_type find None = Err refusal.UnknownType
+
+-- the field or member of the type at a position
+abbrev pub type_part : List TypeInfo → ℕ → ℕ → Result Named PartRefusal
+type_part r id i = in_type (λ d. part_of d i) (slice_get r id)
+
+-- the arm of the type at a position
+abbrev pub type_arm : List TypeInfo → ℕ → ℕ → Result Arm PartRefusal
+type_arm r id i = in_type (λ d. arm_of d i) (slice_get r id)
+
+-- the field of an arm
+abbrev pub field_in : ℕ → Result Arm PartRefusal → Result Named PartRefusal
+field_in i (Ok arm) = ok_or (option_map field_part (slice_get arm.fields i)) refusal.UnknownPart
+field_in i (Err e) = Err e
+
+abbrev pub arm_field : List TypeInfo → ℕ → ℕ → ℕ → Result Named PartRefusal
+arm_field r id arm i = field_in i (type_arm r id arm)
+
+-- the path of the type at a position, its segments joined
+abbrev pub type_path : List TypeInfo → ℕ → Option (List ℕ)
+type_path r id = option_map (λ x. joined_segments x.path) (slice_get r id)
+
+-- the first position, from one on, of a type with the path; or there is none
+abbrev pub IsFirstOfPath : List TypeInfo → ℕ → List ℕ → Option ℕ → Type 0
+IsFirstOfPath r from path (Some id) = (from ≤ id) × (type_path r id ≡ Some path)
+    × ((j : ℕ) → from ≤ j → j < id → type_path r j ≢ Some path)
+IsFirstOfPath r from path None = (j : ℕ) → from ≤ j → type_path r j ≢ Some path
