@@ -12,6 +12,10 @@ use Rattle.scale_calls.specs.declared.refusal.RegistryRefusal.{RegistryRefusal}
 use Rattle.scale_calls.specs.declared.refusal.RegistryRefusal.TheVariants as types
 use Rattle.scale_calls.specs.declared.refusal.ValueRefusal.{ValueRefusal}
 use Rattle.scale_calls.specs.declared.refusal.ValueRefusal.TheVariants as value
+use Rattle.value_core.specs.declared.build_fault.BuildFault.{BuildFault}
+use Rattle.value_core.specs.declared.build_fault.BuildFault.TheVariants as fault
+use Rattle.record_core.specs.declared.replaying.RecordFault.{RecordFault}
+use Rattle.record_core.specs.declared.replaying.RecordFault.TheVariants as records
 use Rattle.scaleview_c.specs.declared.codes.Answer.{Answer}
 
 -- the number of a reason: from 101 for a registry's bytes, from 301 for a value's, and 3 for want
@@ -83,6 +87,32 @@ value_answer value.LimitOutOfRange = plain 202
 value_answer (value.Fault fault) = refused (value_code fault.reason) fault.at
 value_answer (value.TrailingBytes at) = refused 313 at
 value_answer value.Memory = plain 3
+
+-- why records are no value: from 401 on the builder's reasons
+abbrev pub record_code : BuildFault → ℕ
+record_code fault.TooDeep = 401
+record_code fault.NoFiniteValue = 402
+record_code fault.BitSequence = 403
+record_code fault.BadCompact = 404
+record_code fault.WrongKind = 405
+record_code fault.OutOfRange = 406
+record_code fault.NoSuchVariant = 407
+record_code fault.UnfinishedValue = 408
+record_code (fault.BadText valid) = 409
+record_code fault.UnknownType = 201
+record_code fault.OutOfMemory = 3
+
+abbrev pub opening_code : BuildFault → ℕ
+opening_code fault.OutOfRange = 202
+opening_code reason = record_code reason
+
+abbrev pub rejected : ℕ → BuildFault → Answer
+rejected at fault.OutOfMemory = plain 3
+rejected at reason = refused (record_code reason) at
+
+abbrev pub records_answer : RecordFault → Answer
+records_answer (records.Open reason) = plain (opening_code reason)
+records_answer (records.Record at reason) = rejected at reason
 
 -- how far a value is
 abbrev pub progress_answer : Progress → Answer

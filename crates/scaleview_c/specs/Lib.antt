@@ -4,3 +4,4 @@ pub mod Names
 pub mod Kept
 pub mod Owned
 pub mod Types
+pub mod Nodes

@@ -33,6 +33,12 @@ of_value = value.reason_name reason.Truncated ∷ value.reason_name reason.BadBo
     ∷ value.reason_name reason.BadCompact ∷ value.reason_name reason.TooLong
     ∷ codes "TrailingBytes" ∷ []
 
+-- those from 401 on: the reasons of a builder
+abbrev pub of_records : List (List ℕ)
+of_records = codes "TooDeep" ∷ codes "NoFiniteValue" ∷ codes "BitSequence" ∷ codes "BadCompact"
+    ∷ codes "WrongKind" ∷ codes "OutOfRange" ∷ codes "NoSuchVariant" ∷ codes "UnfinishedValue"
+    ∷ codes "BadText" ∷ []
+
 -- the name of a code; what is no code has none
 abbrev pub code_name : ℕ → List ℕ
 code_name code = if nat_le code 6 then slice_index_or calls code []
@@ -42,4 +48,6 @@ code_name code = if nat_le code 6 then slice_index_or calls code []
     else if nat_le code 203 then slice_index_or of_opening (code - 201) []
     else if nat_le code 300 then []
     else if nat_le code 313 then slice_index_or of_value (code - 301) []
+    else if nat_le code 400 then []
+    else if nat_le code 409 then slice_index_or of_records (code - 401) []
     else []

@@ -4,11 +4,14 @@
 ghost use Rattle.std.specs.Prelude.{◌≡◌};
 ghost use Rattle.scaleview_c.specs.Codes.{counted, opened_answer, plain, progress_answer, refused};
 ghost use Rattle.scaleview_c.specs.Codes.{registry_answer, registry_code, text_answer};
+ghost use Rattle.scaleview_c.specs.Codes.{opening_code, record_code, records_answer};
 ghost use Rattle.scaleview_c.specs.Codes.{value_answer, value_code};
 
 use decode_core::{DecodeReason, Progress};
+use record_core::RecordFault;
 use registry_core::{RegistryReason, Version};
 use scale_calls::{RegistryRefusal, ValueRefusal};
+use value_core::BuildFault;
 
 /// The call succeeded.
 pub const OK: u32 = 0;
@@ -26,6 +29,8 @@ pub const NO_HANDLE: u32 = 5;
 pub const TAKEN: u32 = 6;
 /// The registry has no type at the position.
 pub const UNKNOWN_TYPE: u32 = 201;
+/// A limit is out of range.
+pub const LIMIT_OUT_OF_RANGE: u32 = 202;
 /// The type has no such part.
 pub const UNKNOWN_PART: u32 = 203;
 
@@ -36,9 +41,11 @@ pub struct Answer {
     pub code: u32,
     /// The position of the type that has an unknown reference, or the version of metadata.
     pub from: u32,
-    /// The place of a refusal, or where a registry ends, in bytes.
+    /// The place of a refusal in bytes, the position of a rejected record, where a registry ends, or
+    /// the number of bytes of a pool.
     pub at: u64,
-    /// The number of bytes of a text, of types, or of bytes of a piece that belong to the value.
+    /// The number of bytes of a text, of types, of records, or of bytes of a piece that belong to the
+    /// value.
     pub length: u64,
 }
 
@@ -77,6 +84,34 @@ fn value_code(reason: DecodeReason) -> u32
         DecodeReason::BadCompact => 311,
         DecodeReason::TooLong => 312,
         DecodeReason::OutOfMemory => MEMORY,
+    }
+}
+
+fn record_code(reason: BuildFault) -> u32
+    ensures { result ≡ record_code reason }
+{
+    match reason {
+        BuildFault::TooDeep => 401,
+        BuildFault::NoFiniteValue => 402,
+        BuildFault::BitSequence => 403,
+        BuildFault::BadCompact => 404,
+        BuildFault::WrongKind => 405,
+        BuildFault::OutOfRange => 406,
+        BuildFault::NoSuchVariant => 407,
+        BuildFault::UnfinishedValue => 408,
+        BuildFault::BadText { .. } => 409,
+        BuildFault::UnknownType => UNKNOWN_TYPE,
+        BuildFault::OutOfMemory => MEMORY,
+    }
+}
+
+/// Returns the code that says why no value of a type can be begun.
+fn opening_code(reason: BuildFault) -> u32
+    ensures { result ≡ opening_code reason }
+{
+    match reason {
+        BuildFault::OutOfRange => LIMIT_OUT_OF_RANGE,
+        _ => record_code(reason),
     }
 }
 
@@ -163,10 +198,21 @@ impl Answer {
     {
         match refusal {
             ValueRefusal::UnknownType => Answer::plain(UNKNOWN_TYPE),
-            ValueRefusal::LimitOutOfRange => Answer::plain(202),
+            ValueRefusal::LimitOutOfRange => Answer::plain(LIMIT_OUT_OF_RANGE),
             ValueRefusal::Fault(fault) => Answer::refused(value_code(fault.reason), fault.at),
             ValueRefusal::TrailingBytes(at) => Answer::refused(313, at),
             ValueRefusal::Memory => Answer::plain(MEMORY),
+        }
+    }
+
+    /// Returns the answer that says why records are no value.
+    pub(crate) fn of_records(fault: RecordFault) -> Answer
+        ensures { result ≡ records_answer fault }
+    {
+        match fault {
+            RecordFault::Open(reason) => Answer::plain(opening_code(reason)),
+            RecordFault::Record(_, BuildFault::OutOfMemory) => Answer::plain(MEMORY),
+            RecordFault::Record(at, reason) => Answer::refused(record_code(reason), at as u64),
         }
     }
 

@@ -8,6 +8,7 @@ mod handle;
 mod keeper;
 mod lent;
 mod names;
+mod nodes;
 mod opened;
 mod registries;
 mod resource;

@@ -58,6 +58,19 @@ const VALUE: [&str; 13] = [
     "TrailingBytes",
 ];
 
+/// The names of the codes from 401 on, which say why records are no value.
+const RECORDS: [&str; 9] = [
+    "TooDeep",
+    "NoFiniteValue",
+    "BitSequence",
+    "BadCompact",
+    "WrongKind",
+    "OutOfRange",
+    "NoSuchVariant",
+    "UnfinishedValue",
+    "BadText",
+];
+
 /// Returns the name of a code, which is empty for a number that is no code.
 fn code_name(code: u32) -> &'static str
     ensures { result.now ≡ code_name code }
@@ -67,6 +80,7 @@ fn code_name(code: u32) -> &'static str
         101..=112 => REGISTRY[code as usize - 101],
         201..=203 => OPENING[code as usize - 201],
         301..=313 => VALUE[code as usize - 301],
+        401..=409 => RECORDS[code as usize - 401],
         _ => "",
     }
 }
