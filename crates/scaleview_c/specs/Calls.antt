@@ -2,11 +2,12 @@
 use Rattle.std.specs.Prelude.{◌≡◌, ℕ, ◌⊎◌, List, [], ◌++◌, length, Bool, Option}
 use Rattle.std.specs.Prelude.{Some, None, MatchOption, Result, Ok, Err}
 use Rattle.grammar_core.specs.declared.limits.Limits.{Limits}
+use Rattle.grammar_core.specs.Tree.{nodes, text_bytes as tree_text_bytes}
 use Rattle.json_core.specs.Json.{json_text}
 use Rattle.json_core.specs.Printed.{IsInFront}
 use Rattle.machine_core.specs.Outcome.{Job}
-use Rattle.decode_core.specs.Decoding.{AnswersPiece, Decoding, FinishesDecoder, Led, first_of_all}
-use Rattle.decode_core.specs.Decoding.{opening_fault}
+use Rattle.decode_core.specs.Decoding.{AnswersPiece, FinishesDecoder, Led, first_of_all}
+use Rattle.decode_core.specs.Decoding.{node_count, opening_fault, text_bytes}
 use Rattle.decode_core.specs.Streaming.{job_of}
 use Rattle.decode_core.specs.declared.decoder.Progress.{Progress}
 use Rattle.decode_core.specs.declared.fault.DecodeFault.{DecodeFault}
@@ -174,19 +175,26 @@ Feeds (Some (held.Session s)) piece None a = ⊥
 Feeds (Some (held.Registry o)) piece new a = IsNone (Some (held.Registry o)) new a
 Feeds None piece new a = IsNone None new a
 
--- a number of a decoder that is in progress
-abbrev pub number_by : (Decoding → ℕ) → Stage → ℕ
-number_by count (stage.Decoding d) = count d
-number_by count (stage.Complete v) = 0
-number_by count (stage.Refused e) = 0
+-- how many bytes a value in progress has taken, and 0 once it has ended
+abbrev pub bytes_taken : Stage → ℕ
+bytes_taken (stage.Decoding d) = d.taken
+bytes_taken _ = 0
 
-abbrev pub taken_of : Decoding → ℕ
-taken_of d = d.taken
+-- how many nodes are held, and how many bytes of texts and runs
+abbrev pub nodes_held : Stage → ℕ
+nodes_held (stage.Decoding d) = node_count d
+nodes_held (stage.Complete v) = nodes v.tree
+nodes_held (stage.Refused e) = 0
+
+abbrev pub text_bytes_held : Stage → ℕ
+text_bytes_held (stage.Decoding d) = text_bytes d
+text_bytes_held (stage.Complete v) = tree_text_bytes v.tree
+text_bytes_held (stage.Refused e) = 0
 
 -- it is reported, and nothing changes
-abbrev pub Reports : (Decoding → ℕ) → Option Resource → Option Resource → Answer → Type 0
+abbrev pub Reports : (Stage → ℕ) → Option Resource → Option Resource → Answer → Type 0
 Reports count (Some (held.Session s)) new a = (new ≡ Some (held.Session s))
-    × (a ≡ counted 0 (number_by count s.stage))
+    × (a ≡ counted 0 (count s.stage))
 Reports count (Some (held.Registry o)) new a = IsNone (Some (held.Registry o)) new a
 Reports count None new a = IsNone None new a
 

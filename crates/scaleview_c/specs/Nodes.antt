@@ -16,7 +16,7 @@ use Rattle.record_core.specs.declared.record.Record.{Record}
 use Rattle.record_core.specs.declared.replaying.RecordFault.{RecordFault}
 use Rattle.scale_calls.specs.Values.{ReadsValue}
 use Rattle.scale_calls.specs.declared.refusal.ValueRefusal.{ValueRefusal}
-use Rattle.scaleview_c.specs.Calls.{Ends, IsNone, Leaves, Writes}
+use Rattle.scaleview_c.specs.Calls.{Ends, Leaves, Writes}
 use Rattle.scaleview_c.specs.Codes.{plain, records_answer, value_answer}
 use Rattle.scaleview_c.specs.declared.codes.Answer.{Answer}
 use Rattle.scaleview_c.specs.declared.opened.Opened.{Opened}

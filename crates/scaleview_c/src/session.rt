@@ -1,8 +1,8 @@
 //! A value in progress, over a borrowed registry.
 
 ghost use Rattle.std.specs.Prelude.{◌≡◌};
-ghost use Rattle.decode_core.specs.Decoding.{node_count, text_bytes};
-ghost use Rattle.scaleview_c.specs.Calls.{Ends, FeedsStage, WritesStage, number_by, taken_of};
+ghost use Rattle.scaleview_c.specs.Calls.{Ends, FeedsStage, WritesStage, bytes_taken, nodes_held};
+ghost use Rattle.scaleview_c.specs.Calls.{text_bytes_held};
 
 use crate::codes::{Answer, MORE, OK};
 use crate::opened::Opened;
@@ -48,9 +48,9 @@ impl Stage {
         }
     }
 
-    /// Returns the number of bytes taken.
+    /// Returns the number of bytes that a value in progress has taken.
     pub(crate) fn taken(&self) -> u64
-        ensures { result ≡ number_by taken_of self.now }
+        ensures { result ≡ bytes_taken self.now }
     {
         match self {
             Stage::Decoding(decoder) => decoder.taken(),
@@ -60,21 +60,23 @@ impl Stage {
 
     /// Returns the number of nodes held.
     pub(crate) fn nodes(&self) -> u64
-        ensures { result ≡ number_by node_count self.now }
+        ensures { result ≡ nodes_held self.now }
     {
         match self {
             Stage::Decoding(decoder) => decoder.node_count(),
-            Stage::Complete(_) | Stage::Refused(_) => 0,
+            Stage::Complete(value) => value.node_count(),
+            Stage::Refused(_) => 0,
         }
     }
 
     /// Returns the number of bytes of texts and runs held.
     pub(crate) fn text_bytes(&self) -> u64
-        ensures { result ≡ number_by text_bytes self.now }
+        ensures { result ≡ text_bytes_held self.now }
     {
         match self {
             Stage::Decoding(decoder) => decoder.text_bytes(),
-            Stage::Complete(_) | Stage::Refused(_) => 0,
+            Stage::Complete(value) => value.text_bytes(),
+            Stage::Refused(_) => 0,
         }
     }
 

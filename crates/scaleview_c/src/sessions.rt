@@ -1,10 +1,9 @@
 //! The calls on a session, a value whose bytes come in pieces.
 
 ghost use Rattle.std.specs.Prelude.{◌≡◌, None, Some};
-ghost use Rattle.decode_core.specs.Decoding.{node_count, text_bytes};
 ghost use Rattle.scaleview_c.specs.Calls.{Feeds, FinishesSession, Frees, StartsBox};
 ghost use Rattle.scaleview_c.specs.Calls.{Reports, StartsHandle};
-ghost use Rattle.scaleview_c.specs.Calls.{taken_of};
+ghost use Rattle.scaleview_c.specs.Calls.{bytes_taken, nodes_held, text_bytes_held};
 ghost use Rattle.scaleview_c.specs.Kept.{CountsStart, GivesSession};
 
 use crate::codes::{Answer, NO_HANDLE, OK, TAKEN};
@@ -129,7 +128,7 @@ pub extern "C" fn scaleview_feed(
 /// Reports the number of bytes taken of all pieces.
 #[unsafe(no_mangle)]
 pub extern "C" fn scaleview_taken(alloc: Global, session: &mut Handle, answer: &mut Answer) -> u32
-    ensures reported { Reports taken_of session.old.value session.new.value answer.new }
+    ensures reported { Reports bytes_taken session.old.value session.new.value answer.new }
     ensures code { result ≡ answer.new.code }
 {
     let Some(held) = held_by(alloc, mem::replace(session, Handle::none())) else {
@@ -147,7 +146,7 @@ pub extern "C" fn scaleview_taken(alloc: Global, session: &mut Handle, answer: &
 /// Reports the number of nodes held.
 #[unsafe(no_mangle)]
 pub extern "C" fn scaleview_nodes(alloc: Global, session: &mut Handle, answer: &mut Answer) -> u32
-    ensures reported { Reports node_count session.old.value session.new.value answer.new }
+    ensures reported { Reports nodes_held session.old.value session.new.value answer.new }
     ensures code { result ≡ answer.new.code }
 {
     let Some(held) = held_by(alloc, mem::replace(session, Handle::none())) else {
@@ -169,7 +168,7 @@ pub extern "C" fn scaleview_text_bytes(
     session: &mut Handle,
     answer: &mut Answer,
 ) -> u32
-    ensures reported { Reports text_bytes session.old.value session.new.value answer.new }
+    ensures reported { Reports text_bytes_held session.old.value session.new.value answer.new }
     ensures code { result ≡ answer.new.code }
 {
     let Some(held) = held_by(alloc, mem::replace(session, Handle::none())) else {
