@@ -30,9 +30,9 @@ int main(int count, char **words) {
     if (!out || scaleview_open(registry_bytes, registry_length, false, &registry, &answer) != SCALEVIEW_OK) return 2;
     for (long times = atol(words[5]); times > 0; times--) {
         if (shows) {
-            failed |= scaleview_decode(registry, type, 64, 1 << 24, value, length, out, room, &answer);
+            failed |= scaleview_decode(registry, type, 64, 1 << 24, 0, value, length, out, room, &answer);
         } else {
-            failed |= scaleview_start(registry, type, 64, 1 << 24, &session, &answer);
+            failed |= scaleview_start(registry, type, 64, 1 << 24, 0, &session, &answer);
             failed |= scaleview_feed(&session, value, length, &answer);
             failed |= scaleview_free(&session);
         }

@@ -85,7 +85,7 @@ static int show(struct bytes *out, scaleview_answer answer, uint32_t type) {
 
 static int decode(scaleview_registry registry, uint32_t type, uint16_t depth, struct bytes value, struct bytes *out) {
     scaleview_answer answer;
-    do scaleview_decode(registry, type, depth, 1 << 24, value.at, value.length, out->at, out->length, &answer);
+    do scaleview_decode(registry, type, depth, 1 << 24, 0, value.at, value.length, out->at, out->length, &answer);
     while (grow(out, answer));
     return show(out, answer, type);
 }
@@ -106,7 +106,7 @@ static int decode_in_pieces(scaleview_registry registry, uint32_t type, uint16_t
                             struct bytes *out) {
     scaleview_session session = {NULL};
     scaleview_answer answer;
-    if (scaleview_start(registry, type, depth, 1 << 24, &session, &answer) != SCALEVIEW_OK) return refuse(answer, type);
+    if (scaleview_start(registry, type, depth, 1 << 24, 0, &session, &answer) != SCALEVIEW_OK) return refuse(answer, type);
     uint64_t taken = feed(&session, value, step, &answer);
     if (answer.code == SCALEVIEW_OK && taken < value.length) {
         answer.code = SCALEVIEW_VALUE_TRAILING_BYTES;

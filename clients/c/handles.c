@@ -1,5 +1,5 @@
 /* What handles do: sessions beside each other, a registry that is lent, wrong kinds, none, every order of freeing, numbers
- * of codes, too little room. */
+ * of codes, too little room, too little memory. */
 #include "scaleview.h"
 #include <stdio.h>
 #include <string.h>
@@ -21,8 +21,8 @@ static void check_lending(void) {
     scaleview_answer answer;
     check("opened", scaleview_open(u16_registry, sizeof u16_registry, false, &registry, &answer) == SCALEVIEW_OK);
     check("one type", answer.length == 1);
-    check("first", scaleview_start(registry, 0, 64, 1 << 24, &first, &answer) == SCALEVIEW_OK);
-    check("second", scaleview_start(registry, 0, 64, 1 << 24, &second, &answer) == SCALEVIEW_OK);
+    check("first", scaleview_start(registry, 0, 64, 1 << 24, 0, &first, &answer) == SCALEVIEW_OK);
+    check("second", scaleview_start(registry, 0, 64, 1 << 24, 0, &second, &answer) == SCALEVIEW_OK);
     check("lent twice", scaleview_close(&registry) == SCALEVIEW_LENT && registry.inside);
     check("more", scaleview_feed(&first, (const uint8_t *)"\x01", 1, &answer) == SCALEVIEW_MORE);
     check("whole", scaleview_feed(&second, (const uint8_t *)"\x02\x00\xff", 3, &answer) == SCALEVIEW_OK);
@@ -47,12 +47,12 @@ static void check_kinds(void) {
     scaleview_answer answer;
     uint8_t out[64];
     scaleview_open(u16_registry, sizeof u16_registry, false, &registry, &answer);
-    scaleview_start(registry, 0, 64, 1 << 24, &session, &answer);
+    scaleview_start(registry, 0, 64, 1 << 24, 0, &session, &answer);
     scaleview_registry wrong = {session.inside};
     check("types of a session", scaleview_types(wrong, &answer) == SCALEVIEW_NO_HANDLE);
     check("a line of a session", scaleview_type_line(wrong, 0, out, sizeof out, &answer) == SCALEVIEW_NO_HANDLE);
-    check("a value of a session", scaleview_decode(wrong, 0, 64, 1, out, 0, out, 0, &answer) == SCALEVIEW_NO_HANDLE);
-    check("a session of one", scaleview_start(wrong, 0, 64, 1, &other, &answer) == SCALEVIEW_NO_HANDLE && !other.inside);
+    check("a value of a session", scaleview_decode(wrong, 0, 64, 1, 0, out, 0, out, 0, &answer) == SCALEVIEW_NO_HANDLE);
+    check("a session of one", scaleview_start(wrong, 0, 64, 1, 0, &other, &answer) == SCALEVIEW_NO_HANDLE && !other.inside);
     check("a session closed", scaleview_close(&wrong) == SCALEVIEW_NO_HANDLE && wrong.inside == session.inside);
     scaleview_session none = {registry.inside};
     check("a registry fed", scaleview_feed(&none, out, 0, &answer) == SCALEVIEW_NO_HANDLE && none.inside == registry.inside);
@@ -74,9 +74,9 @@ static void check_none(void) {
     uint8_t out[64] = {'?'};
     check("types of none", scaleview_types(registry, &answer) == SCALEVIEW_NO_HANDLE && answer.code == SCALEVIEW_NO_HANDLE);
     check("a line of none", scaleview_type_line(registry, 0, out, sizeof out, &answer) == SCALEVIEW_NO_HANDLE);
-    check("a value of none", scaleview_decode(registry, 0, 64, 9, out, 1, out + 1, 9, &answer) == SCALEVIEW_NO_HANDLE);
+    check("a value of none", scaleview_decode(registry, 0, 64, 9, 0, out, 1, out + 1, 9, &answer) == SCALEVIEW_NO_HANDLE);
     check("nothing is written", out[0] == '?' && out[1] == 0);
-    check("a session of none", scaleview_start(registry, 0, 64, 9, &session, &answer) == SCALEVIEW_NO_HANDLE && !session.inside);
+    check("a session of none", scaleview_start(registry, 0, 64, 9, 0, &session, &answer) == SCALEVIEW_NO_HANDLE && !session.inside);
     check("none is closed", scaleview_close(&registry) == SCALEVIEW_NO_HANDLE && !registry.inside);
     check("none is fed", scaleview_feed(&session, out, 1, &answer) == SCALEVIEW_NO_HANDLE && !session.inside);
     check("taken of none", scaleview_taken(&session, &answer) == SCALEVIEW_NO_HANDLE && answer.length == 0);
@@ -95,9 +95,9 @@ static void check_taken(void) {
     void *inside = registry.inside;
     check("opened over another", scaleview_open(u16_registry, sizeof u16_registry, false, &registry, &answer) == SCALEVIEW_TAKEN);
     check("the one before", registry.inside == inside && answer.code == SCALEVIEW_TAKEN);
-    scaleview_start(registry, 0, 64, 9, &session, &answer);
+    scaleview_start(registry, 0, 64, 9, 0, &session, &answer);
     inside = session.inside;
-    check("started over another", scaleview_start(registry, 0, 64, 9, &session, &answer) == SCALEVIEW_TAKEN);
+    check("started over another", scaleview_start(registry, 0, 64, 9, 0, &session, &answer) == SCALEVIEW_TAKEN);
     check("the session before", session.inside == inside);
     check("freed", scaleview_free(&session) == SCALEVIEW_OK);
     check("closed", scaleview_close(&registry) == SCALEVIEW_OK);
@@ -154,7 +154,7 @@ static void check_counts(void) {
     scaleview_answer answer;
     uint8_t out[8];
     scaleview_open(bytes_registry, sizeof bytes_registry, false, &registry, &answer);
-    scaleview_start(registry, 1, 64, 99, &session, &answer);
+    scaleview_start(registry, 1, 64, 99, 0, &session, &answer);
     check("a run goes on", scaleview_feed(&session, (const uint8_t *)"\x0c\x01", 2, &answer) == SCALEVIEW_MORE);
     check("one byte of it", scaleview_text_bytes(&session, &answer) == SCALEVIEW_OK && answer.length == 1);
     check("no node yet", scaleview_nodes(&session, &answer) == SCALEVIEW_OK && answer.length == 0);
@@ -175,11 +175,11 @@ static void check_limit(void) {
     scaleview_answer answer;
     uint8_t out[8];
     scaleview_open(u32_registry, sizeof u32_registry, false, &registry, &answer);
-    scaleview_start(registry, 0, 64, 2, &session, &answer);
+    scaleview_start(registry, 0, 64, 2, 0, &session, &answer);
     check("up to the limit", scaleview_feed(&session, (const uint8_t *)"\x01\x02", 2, &answer) == SCALEVIEW_MORE);
     check("cut at the limit", scaleview_finish(&session, out, sizeof out, &answer) == SCALEVIEW_VALUE_TRUNCATED && answer.at == 2);
     scaleview_free(&session);
-    scaleview_start(registry, 0, 64, 2, &session, &answer);
+    scaleview_start(registry, 0, 64, 2, 0, &session, &answer);
     for (int time = 0; time < 2; time++) {
         check("past the limit", scaleview_feed(&session, (const uint8_t *)"\x01\x02\x03", 3, &answer) == SCALEVIEW_VALUE_TOO_LONG);
         check("at the limit", answer.at == 2);
@@ -187,6 +187,34 @@ static void check_limit(void) {
     }
     check("refused at its end", scaleview_finish(&session, out, sizeof out, &answer) == SCALEVIEW_VALUE_TOO_LONG && answer.at == 2);
     scaleview_free(&session);
+    check("closed", scaleview_close(&registry) == SCALEVIEW_OK);
+}
+
+/* Budgets of memory from a byte on: the answer is SCALEVIEW_MEMORY up to one that is enough, by one call and by a session. A
+ * session whose text finds no memory keeps its value. */
+static void check_memory(void) {
+    scaleview_registry registry = {NULL};
+    scaleview_answer answer;
+    uint8_t out[8];
+    bool is_enough = false, is_kept = false;
+    scaleview_open(u16_registry, sizeof u16_registry, false, &registry, &answer);
+    for (uint64_t memory = 1; memory <= 4096; memory++) {
+        const uint8_t *bytes = (const uint8_t *)"\x01\x02";
+        scaleview_session session = {NULL};
+        uint32_t code = scaleview_decode(registry, 0, 64, 9, memory, bytes, 2, out, sizeof out, &answer);
+        check("a budget is enough or not", code == SCALEVIEW_OK || (code == SCALEVIEW_MEMORY && !is_enough));
+        is_enough = code == SCALEVIEW_OK;
+        check("started in a budget", scaleview_start(registry, 0, 64, 9, memory, &session, &answer) == SCALEVIEW_OK);
+        uint32_t fed = scaleview_feed(&session, bytes, 2, &answer);
+        check("fed in a budget", fed == SCALEVIEW_OK || fed == SCALEVIEW_MEMORY);
+        for (int time = 0; time < 2; time++)
+            check("ended in a budget", scaleview_finish(&session, out, sizeof out, &answer) == code);
+        check("fed again", scaleview_feed(&session, bytes, 2, &answer) == fed);
+        check("freed", scaleview_free(&session) == SCALEVIEW_OK);
+        is_kept = is_kept || (fed == SCALEVIEW_OK && code == SCALEVIEW_MEMORY);
+    }
+    check("4096 bytes are enough", is_enough);
+    check("memory for the value alone", is_kept);
     check("closed", scaleview_close(&registry) == SCALEVIEW_OK);
 }
 
@@ -201,7 +229,7 @@ static scaleview_session started(scaleview_registry registry, int state) {
     scaleview_session session = {NULL};
     scaleview_answer answer;
     uint8_t out[8];
-    check("started", scaleview_start(registry, 0, 64, 99, &session, &answer) == SCALEVIEW_OK);
+    check("started", scaleview_start(registry, 0, 64, 99, 0, &session, &answer) == SCALEVIEW_OK);
     if (state != FRESH) scaleview_feed(&session, (const uint8_t *)fed[state].bytes, fed[state].length, &answer);
     if (state == ENDED) check("ended", scaleview_finish(&session, out, sizeof out, &answer) == SCALEVIEW_OK && answer.length == 4);
     if (state == CUT) check("cut", scaleview_finish(&session, out, sizeof out, &answer) == SCALEVIEW_VALUE_TRUNCATED && answer.at == 2);
@@ -361,7 +389,7 @@ static void check_numbers(void) {
         uint8_t out[64];
         check("a registry", scaleview_open((const uint8_t *)values[i].registry, values[i].registry_length, false, &registry,
                                            &answer) == SCALEVIEW_OK);
-        scaleview_decode(registry, 0, values[i].depth, values[i].limit, (const uint8_t *)values[i].bytes, values[i].length,
+        scaleview_decode(registry, 0, values[i].depth, values[i].limit, 0, (const uint8_t *)values[i].bytes, values[i].length,
                          out, sizeof out, &answer);
         if (answer.code != values[i].code || answer.at != values[i].at) printf("handles: code %u for %u\n", answer.code, values[i].code);
         check("a value's code and place", answer.code == values[i].code && answer.at == values[i].at);
@@ -378,6 +406,7 @@ int main(void) {
     check_names();
     check_counts();
     check_limit();
+    check_memory();
     check_later_pieces();
     check_orders();
     check_numbers();

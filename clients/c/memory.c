@@ -1,5 +1,6 @@
-/* Refuses each request for memory of a run in turn: memory REGISTRY ID VALUE. The call that makes it says so, and when all is
- * freed no block is left. It is linked so that the library's requests come here (--wrap). */
+/* Refuses each request for memory of a run in turn: memory REGISTRY ID VALUE. The call that makes it says so, a text that
+ * found no memory comes by another call, and when all is freed no block is left. It is linked so that the library's requests
+ * come here (--wrap). */
 #include "scaleview.h"
 #include <stdio.h>
 #include <stdlib.h>
@@ -66,10 +67,10 @@ static int run(size_t registry_length, uint32_t type, size_t length, long reques
     code = scaleview_type_line(registry, type, out, sizeof out, &answer);
     check("a line", is_answer(code), request);
     wants += code == SCALEVIEW_MEMORY;
-    code = scaleview_decode(registry, type, 64, 1 << 24, bytes[1], length, out, sizeof out, &answer);
+    code = scaleview_decode(registry, type, 64, 1 << 24, 0, bytes[1], length, out, sizeof out, &answer);
     check("a value", is_answer(code), request);
     wants += code == SCALEVIEW_MEMORY;
-    code = scaleview_start(registry, type, 64, 1 << 24, &session, &answer);
+    code = scaleview_start(registry, type, 64, 1 << 24, 0, &session, &answer);
     check("started or not", code == SCALEVIEW_OK ? session.inside != NULL : code == SCALEVIEW_MEMORY && !session.inside, request);
     bool wanted = code == SCALEVIEW_MEMORY;
     if (!wanted) {
@@ -78,8 +79,14 @@ static int run(size_t registry_length, uint32_t type, size_t length, long reques
             check("a piece", is_answer(code) && (!wanted || code == SCALEVIEW_MEMORY), request);
             wanted = wanted || code == SCALEVIEW_MEMORY;
         }
+        bool is_lost = wanted;
         code = scaleview_finish(&session, out, sizeof out, &answer);
-        check("the end", is_answer(code) && (!wanted || code == SCALEVIEW_MEMORY), request);
+        check("the end", is_answer(code) && (!is_lost || code == SCALEVIEW_MEMORY), request);
+        bool is_kept = !is_lost && code == SCALEVIEW_MEMORY;
+        wanted = wanted || is_kept;
+        code = scaleview_finish(&session, out, sizeof out, &answer);
+        check("the end again", is_answer(code) && (!is_lost || code == SCALEVIEW_MEMORY), request);
+        check("the text at last", !is_kept || code == SCALEVIEW_OK, request);
         wanted = wanted || code == SCALEVIEW_MEMORY;
         check("freed", scaleview_free(&session) == SCALEVIEW_OK, request);
     }

@@ -29,7 +29,7 @@ enum scaleview_code {
     SCALEVIEW_OK = 0,        /* the call succeeded */
     SCALEVIEW_MORE = 1,      /* the piece was taken, and the value is incomplete */
     SCALEVIEW_NO_ROOM = 2,   /* the text has `length` bytes and does not fit; nothing is lost */
-    SCALEVIEW_MEMORY = 3,    /* an allocation failed */
+    SCALEVIEW_MEMORY = 3,    /* an allocation failed, or would have exceeded `memory` */
     SCALEVIEW_LENT = 4,      /* a session of the registry is not freed yet, so it stays open */
     SCALEVIEW_NO_HANDLE = 5, /* the handle is null or of the other kind; nothing changes */
     SCALEVIEW_TAKEN = 6,     /* the handle to be set is not null, and is unchanged */
@@ -212,19 +212,34 @@ uint32_t scaleview_find(scaleview_registry registry, uint32_t from, const uint8_
  * of `answer->length` bytes, without a terminating 0. The value has at most `limit` bytes, up to 2^40, and no part of it is
  * deeper than `depth`, up to 1024; the value itself has depth 0.
  *
+ * `memory` is the most bytes that the library allocates at once for the value and its text; 0 stands for no budget. If more
+ * are needed, the call returns SCALEVIEW_MEMORY. What counts:
+ *
+ * - the value: a list of its nodes, 24 bytes each; one of its open levels, 24 bytes each; and one of the bytes of its
+ *   texts, byte runs and integers above 64 bits. Each has spare capacity: at first for 16 elements, and later for up to
+ *   three times as many as it has;
+ * - the text while it is written. Its capacity is 256 bytes, or at most twice its length, and above a mebibyte at most a
+ *   quarter more. The longest text with an escape is held once more. A value that is one byte run, or one text without an
+ *   escape, takes no memory here.
+ *
+ * A list or text that grows holds its old memory until it is copied, so that both count then. What doesn't count: the
+ * registry; a fixed number of bytes for each call and session; and, while the text is written, the order of keys of each
+ * composite and variant, and 40 bytes for each field of an open object with more than eight fields whose names are out of
+ * order.
+ *
  * Otherwise it returns SCALEVIEW_NO_ROOM, SCALEVIEW_UNKNOWN_TYPE, SCALEVIEW_LIMIT_OUT_OF_RANGE, SCALEVIEW_MEMORY,
  * SCALEVIEW_NO_HANDLE or a code of SCALEVIEW_VALUE_*, and `out` is unchanged. After SCALEVIEW_NO_ROOM a call with more room
- * decodes again; a session keeps its text. */
-uint32_t scaleview_decode(scaleview_registry registry, uint32_t type, uint16_t depth, uint64_t limit,
+ * decodes again; a session keeps its value. */
+uint32_t scaleview_decode(scaleview_registry registry, uint32_t type, uint16_t depth, uint64_t limit, uint64_t memory,
                           const uint8_t *bytes, size_t length, uint8_t *out, size_t room, scaleview_answer *answer);
 
-/* Starts a value whose bytes come in pieces. The numbers are those of scaleview_decode. The registry can't be closed until
- * the session is freed.
+/* Starts a value whose bytes come in pieces. The numbers are those of scaleview_decode, and `memory` bounds what all calls on
+ * the session hold. The registry can't be closed until the session is freed.
  *
  * `session` must be null, or the call returns SCALEVIEW_TAKEN. After SCALEVIEW_OK it is a session that the caller frees.
  * Otherwise the call returns SCALEVIEW_UNKNOWN_TYPE, SCALEVIEW_LIMIT_OUT_OF_RANGE, SCALEVIEW_MEMORY or
  * SCALEVIEW_NO_HANDLE, and `session` stays null. */
-uint32_t scaleview_start(scaleview_registry registry, uint32_t type, uint16_t depth, uint64_t limit,
+uint32_t scaleview_start(scaleview_registry registry, uint32_t type, uint16_t depth, uint64_t limit, uint64_t memory,
                          scaleview_session *session, scaleview_answer *answer);
 
 /* Feeds the next piece, which may be empty. It returns
@@ -236,17 +251,19 @@ uint32_t scaleview_start(scaleview_registry registry, uint32_t type, uint16_t de
 uint32_t scaleview_feed(scaleview_session *session, const uint8_t *piece, size_t length, scaleview_answer *answer);
 
 /* Report the number of bytes taken of all pieces, of nodes held, and of bytes of texts and byte runs held, in
- * `answer->length`. After a refusal no nodes and no bytes are held; after scaleview_finish all three numbers are 0. Otherwise
- * they return SCALEVIEW_NO_HANDLE. */
+ * `answer->length`, of a value that has not ended. After a refusal no nodes and no bytes are held; after scaleview_finish all
+ * three numbers are 0. Otherwise they return SCALEVIEW_NO_HANDLE. */
 uint32_t scaleview_taken(scaleview_session *session, scaleview_answer *answer);
 uint32_t scaleview_nodes(scaleview_session *session, scaleview_answer *answer);
 uint32_t scaleview_text_bytes(scaleview_session *session, scaleview_answer *answer);
 
-/* Ends the value, and writes its JSON to the front of `out` as scaleview_decode does. After SCALEVIEW_NO_ROOM call it again
- * with more room; the text is kept until the session is freed. If the value is incomplete, the call returns
- * SCALEVIEW_VALUE_TRUNCATED at the number of bytes taken; if it was rejected, that refusal. After SCALEVIEW_MEMORY the value
- * is lost, and every later call returns the same. No piece is taken afterwards: scaleview_feed then returns what the end
- * did. Otherwise it returns SCALEVIEW_NO_HANDLE. */
+/* Ends the value, and writes its JSON to the front of `out` as scaleview_decode does. The value is kept until the session is
+ * freed, and its text is made in each call: after SCALEVIEW_NO_ROOM call it again with more room. If there is no memory for
+ * the text, the call returns SCALEVIEW_MEMORY, and a later call may succeed.
+ *
+ * If the value is incomplete, the call returns SCALEVIEW_VALUE_TRUNCATED at the number of bytes taken; if it was rejected,
+ * that refusal, also SCALEVIEW_MEMORY; every later call returns the same. No piece is taken afterwards: scaleview_feed then
+ * returns SCALEVIEW_OK for a complete value, and that refusal for others. Otherwise it returns SCALEVIEW_NO_HANDLE. */
 uint32_t scaleview_finish(scaleview_session *session, uint8_t *out, size_t room, scaleview_answer *answer);
 
 /* Frees a session, sets it to null and returns SCALEVIEW_OK, or SCALEVIEW_NO_HANDLE if it is null. */

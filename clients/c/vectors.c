@@ -195,7 +195,7 @@ static struct text value_answer(const struct value *value, bool front, char line
 static void check_whole(const struct value *value, uint8_t *out) {
     char wanted[128], found[128];
     scaleview_answer answer;
-    scaleview_decode(value->registry, value->type, value->depth, value->limit, value->bytes, value->length, out, TEXT_ROOM,
+    scaleview_decode(value->registry, value->type, value->depth, value->limit, 0, value->bytes, value->length, out, TEXT_ROOM,
                      &answer);
     check(value->name, "decode", value_answer(value, false, wanted), shown(answer, out, found));
 }
@@ -214,7 +214,7 @@ static void check_pieces(const struct value *value, size_t step, uint8_t *out) {
     char wanted[128], found[128];
     scaleview_session session = {NULL};
     scaleview_answer answer;
-    uint32_t code = scaleview_start(value->registry, value->type, value->depth, value->limit, &session, &answer);
+    uint32_t code = scaleview_start(value->registry, value->type, value->depth, value->limit, 0, &session, &answer);
     if (code != SCALEVIEW_OK) {
         check(value->name, "start", value->answer, told(answer, found));
         return;

@@ -36,12 +36,15 @@ LIMIT = 16_777_216
 Buffer = Union[bytes, bytearray, memoryview]
 
 # The most bytes of a value that is decoded by one call. The text of a longer one may want more room
-# than is offered at first, and so goes by a session, which keeps it: then no value is decoded twice.
+# than is offered at first, and so goes by a session, which keeps the value: then none is decoded twice.
 _SHORT = 1024
 
 _OK, _MORE, _NO_ROOM, _MEMORY = range(4)
 _UNKNOWN_REFERENCE = 112
 _TRAILING_BYTES = 313
+
+# No budget of memory for a call or session.
+_NO_BUDGET = 0
 
 _REGISTRY = dict(
     enumerate(
@@ -129,8 +132,8 @@ def _load() -> ctypes.CDLL:
         ("open", text, size, ctypes.c_bool, handle, answer),
         ("close", handle),
         ("type_line", _Handle, number, text, size, answer),
-        ("decode", _Handle, number, ctypes.c_uint16, wide, text, size, text, size, answer),
-        ("start", _Handle, number, ctypes.c_uint16, wide, handle, answer),
+        ("decode", _Handle, number, ctypes.c_uint16, wide, wide, text, size, text, size, answer),
+        ("start", _Handle, number, ctypes.c_uint16, wide, wide, handle, answer),
         ("feed", handle, text, size, answer),
         ("taken", handle, answer),
         ("nodes", handle, answer),
@@ -328,7 +331,8 @@ class Registry(_Owned):
         numbers, data = _numbers(type_id, depth, limit), _bytes(value)
         if len(data) > _SHORT:
             return self._decode_long(data, *numbers)
-        return _text(lambda *rest: self._call(_library.scaleview_decode, *numbers, data, len(data), *rest))
+        budgeted = (*numbers, _NO_BUDGET)
+        return _text(lambda *rest: self._call(_library.scaleview_decode, *budgeted, data, len(data), *rest))
 
     def _decode_long(self, data: bytes, type_id: int, depth: int, limit: int) -> str:
         with self.start(type_id, depth=depth, limit=limit) as session:
@@ -381,7 +385,7 @@ class Session(_Owned):
     def __init__(self, registry: Registry, type_id: int, depth: int, limit: int) -> None:
         numbers, answer = _numbers(type_id, depth, limit), _Answer()
         self._own(registry._owner, _Handle())
-        if registry._call(_library.scaleview_start, *numbers, self._handle, answer) != _OK:
+        if registry._call(_library.scaleview_start, *numbers, _NO_BUDGET, self._handle, answer) != _OK:
             _raise(answer)
 
     def feed(self, piece: Buffer) -> int | None:

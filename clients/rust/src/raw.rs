@@ -7,6 +7,9 @@ pub const MORE: u32 = 1;
 pub const NO_ROOM: u32 = 2;
 pub const MEMORY: u32 = 3;
 
+/// No budget of memory for a call or session.
+pub const NO_BUDGET: u64 = 0;
+
 /// What a call reports beside its code.
 #[repr(C)]
 #[derive(Clone, Copy, Debug, Default)]
@@ -37,6 +40,7 @@ unsafe extern "C" {
         id: u32,
         depth: u16,
         limit: u64,
+        memory: u64,
         bytes: *const u8,
         length: usize,
         out: *mut u8,
@@ -48,6 +52,7 @@ unsafe extern "C" {
         id: u32,
         depth: u16,
         limit: u64,
+        memory: u64,
         session: *mut Handle,
         answer: *mut Answer,
     ) -> u32;

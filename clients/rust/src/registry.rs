@@ -5,7 +5,7 @@ use crate::raw::{self, Answer, Handle};
 use crate::session::{Progress, Session};
 
 /// The most bytes of a value that is decoded by one call. The text of a longer one may want more room than is offered at
-/// first, and so goes by a session, which keeps it: then no value is decoded twice.
+/// first, and so goes by a session, which keeps the value: then none is decoded twice.
 const SHORT: usize = 1024;
 
 /// How deep a value may be, and how many bytes may be its own.
@@ -133,10 +133,11 @@ impl Registry {
         if bytes.len() > SHORT {
             return self.decode_long(id, limits, bytes);
         }
+        let Limits { depth, bytes: limit } = limits;
         // SAFETY: as above, and the slice is this call's.
         raw::text(|out, room, answer| unsafe {
             let (at, length) = (bytes.as_ptr(), bytes.len());
-            raw::scaleview_decode(self.handle, id, limits.depth, limits.bytes, at, length, out, room, answer)
+            raw::scaleview_decode(self.handle, id, depth, limit, raw::NO_BUDGET, at, length, out, room, answer)
         })
         .map_err(|answer| Error::of_type(id, answer))
     }
@@ -157,8 +158,9 @@ impl Registry {
     /// `UnknownType`, `LimitOutOfRange`, `Memory`.
     pub fn start(&self, id: u32, limits: Limits) -> Result<Session<'_>, Error> {
         let (mut handle, mut answer) = (Handle::NONE, Answer::default());
+        let Limits { depth, bytes } = limits;
         // SAFETY: the registry is open for as long as the session borrows it, and the session's handle is none.
-        match unsafe { raw::scaleview_start(self.handle, id, limits.depth, limits.bytes, &mut handle, &mut answer) } {
+        match unsafe { raw::scaleview_start(self.handle, id, depth, bytes, raw::NO_BUDGET, &mut handle, &mut answer) } {
             raw::OK => Ok(Session::of(handle)),
             _ => Err(Error::of_type(id, answer)),
         }
