@@ -3,9 +3,9 @@
 ghost use Rattle.std.specs.Prelude.{◌≡◌, ◌≢◌, ◌++◌, List, ℕ, Decides, IfOk, IfSome, MatchOption};
 ghost use Rattle.std.specs.Prelude.{codes, option_copied, option_map, slice_get, string_bytes};
 ghost use Rattle.registry_core.specs.Fits.{FitsDefinition};
-ghost use Rattle.scale_calls.specs.Describing.{IsFirstOfPath, arm_field, arm_of, field_part, part_of};
-ghost use Rattle.scale_calls.specs.Describing.{result_map, seen, seen_definition, type_arm};
-ghost use Rattle.scale_calls.specs.Describing.{type_definition, type_part, type_path};
+ghost use Rattle.scale_calls.specs.Describing.{IsFirstOfPath, arm_field, arm_of, field_part};
+ghost use Rattle.scale_calls.specs.Describing.{part_of, result_map, seen, seen_definition};
+ghost use Rattle.scale_calls.specs.Describing.{type_arm, type_definition, type_part, type_path};
 ghost use Rattle.scale_calls.specs.Lines.{joined_segments};
 
 use crate::lines::joined;

@@ -1,6 +1,6 @@
 -- What the calls that describe a type report.
-use Rattle.std.specs.Prelude.{◌≡◌, ℕ, ◌⊎◌, List, [], length, nat_le, if◌then◌else◌, Option, Some, None}
-use Rattle.std.specs.Prelude.{MatchOption, Result, Ok, Err}
+use Rattle.std.specs.Prelude.{◌≡◌, ℕ, ◌⊎◌, List, [], length, nat_le, if◌then◌else◌, Option, Some}
+use Rattle.std.specs.Prelude.{None, MatchOption, Result, Ok, Err}
 use Rattle.json_core.specs.Printed.{IsInFront}
 use Rattle.registry_core.specs.Bytes.{primitive_byte}
 use Rattle.registry_core.specs.declared.definition.Arm.{Arm}

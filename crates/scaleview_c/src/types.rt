@@ -6,7 +6,8 @@ ghost use Rattle.registry_core.specs.Fits.{FitsDefinition};
 ghost use Rattle.scale_calls.specs.Describing.{result_map, seen};
 ghost use Rattle.scaleview_c.specs.Types.{ReportsFirst, ReportsShape, WritesArm, WritesArmField};
 ghost use Rattle.scaleview_c.specs.Types.{WritesName, WritesPart, WritesPath, WritesTypePart};
-ghost use Rattle.scaleview_c.specs.Types.{class_number, kind_number, part_code, plain_shape, shape_numbers};
+ghost use Rattle.scaleview_c.specs.Types.{class_number, kind_number, part_code, plain_shape};
+ghost use Rattle.scaleview_c.specs.Types.{shape_numbers};
 
 use crate::codes::{Answer, MEMORY, NO_HANDLE, OK, UNKNOWN_PART, UNKNOWN_TYPE};
 use crate::lent::Lent;
@@ -72,23 +73,7 @@ fn kind_number(definition: &TypeDef) -> u32
 fn primitive_number(primitive: Primitive) -> u32
     ensures { result ≡ primitive_byte primitive }
 {
-    match primitive {
-        Primitive::Bool => 0,
-        Primitive::Char => 1,
-        Primitive::Str => 2,
-        Primitive::U8 => 3,
-        Primitive::U16 => 4,
-        Primitive::U32 => 5,
-        Primitive::U64 => 6,
-        Primitive::U128 => 7,
-        Primitive::U256 => 8,
-        Primitive::I8 => 9,
-        Primitive::I16 => 10,
-        Primitive::I32 => 11,
-        Primitive::I64 => 12,
-        Primitive::I128 => 13,
-        Primitive::I256 => 14,
-    }
+    primitive as u32
 }
 
 /// Returns the code that says why there is no part.
