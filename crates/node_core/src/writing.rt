@@ -49,8 +49,8 @@ fn width_of(checked: &Checked, ty: TypeId) -> usize
     }
 }
 
-/// Returns the index of a variant's arm at a position, or `None` if the type is no variant or has no
-/// arm there.
+/// Returns the index of a variant's arm at a position, or `None` if the type is no variant or has
+/// no arm there.
 pub fn index_of(checked: &Checked, ty: TypeId, position: u32) -> Option<u8>
     ensures { result ≡ index_of (shape checked.now.types ty.0) position }
 {
@@ -146,8 +146,8 @@ fn put_node(checked: &Checked, node: &Node, pool: &[u8], out: &mut [u8; 17]) -> 
     }
 }
 
-/// Returns the bytes of a node that lie in the pool as they are written: a text, a run of bytes or a
-/// 256-bit integer. Another node has none.
+/// Returns the bytes of a node that lie in the pool as they are written: a text, a run of bytes or
+/// a 256-bit integer. Another node has none.
 #[inline(always)]
 pub fn pooled<'v>(node: &Node, pool: &'v [u8]) -> &'v [u8]
     requires { IsInPool pool.now node.now.content }

@@ -1,5 +1,6 @@
 -- What a record adds, by its kind.
-use Rattle.std.proofs.Common.{◌≡◌, ℕ, ◌+◌, ◌≤◌, ◌<◌, Bool, true, false, List, length, refl, sym, subst, ap, ◌∙◌}
+use Rattle.std.proofs.Common.{◌≡◌, ℕ, ◌+◌, ◌≤◌, ◌<◌, Bool, true, false, List, length, refl, sym}
+use Rattle.std.proofs.Common.{subst, ap, ◌∙◌}
 use Rattle.std.proofs.Common.{arith}
 use Rattle.std.specs.Prelude.{Result, Err, ℤ, ◌^◌, nat_lt}
 use Rattle.std.specs.Int.{w128, cast_signed, cast_unsigned}
@@ -61,7 +62,8 @@ signed_is n h = sym (ap signed_from (sym (word_back n h))
     (sym (of_z-to_z w128 n h)) refl)
 
 -- what a builder adds of a signed integer is what its record adds
-pub signed_adds : (r : Record) (b new : Built) (x : Result (Unit {0}) BuildFault) (n : ℕ) (y z : ℤ) →
+pub signed_adds : (r : Record) (b new : Built) (x : Result (Unit {0}) BuildFault) (n : ℕ)
+    (y z : ℤ) →
     r.kind ≡ 4 → n ≡ number_of r → n < 2 ^ 128 → y ≡ cast_signed w128 n →
     z ≡ cast_signed w128 (cast_unsigned w128 y) →
     Adds (judged (suits_signed z) b) (with_leaf b (head.leaf (tree.signed z))) b new x →

@@ -1,5 +1,6 @@
 -- The records of a value, read back, are its tree.
-use Rattle.std.proofs.Common.{◌≡◌, ℕ, ◌+◌, ◌-◌, ◌*◌, ◌/◌, ◌%◌, ◌^◌, List, [], ◌∷◌, ◌++◌, length, map}
+use Rattle.std.proofs.Common.{◌≡◌, ℕ, ◌+◌, ◌-◌, ◌*◌, ◌/◌, ◌%◌, ◌^◌, List, [], ◌∷◌, ◌++◌, length}
+use Rattle.std.proofs.Common.{map}
 use Rattle.std.proofs.Common.{take, drop, refl, sym, ap, ◌∙◌, arith, append_assoc, true, false}
 use Rattle.std.proofs.Common.{length-append, slice_range}
 use Rattle.std.specs.Prelude.{ℤ, FitsSigned}
@@ -28,6 +29,7 @@ abbrev HeadsFit : List Head → Type 0
 HeadsFit [] = Unit {0}
 HeadsFit (h ∷ hs) = FitsHead h × HeadsFit hs
 
+-- nodes that fit stay so when they are joined
 heads_append : (as' bs : List Head) → HeadsFit as' → HeadsFit bs → HeadsFit (as' ++ bs)
 heads_append [] bs f g = g
 heads_append (a ∷ as') bs f g = (f.0, heads_append as' bs f.1 g)
@@ -94,6 +96,7 @@ head_back front rest at c e fits = by c.head fits where
 abbrev bare : List Cell → List Head
 bare cs = map (λ (c : Cell). c.head) cs
 
+-- all nodes are read back from their records, after what stands in front of their bytes
 heads_back : (front : List ℕ) (at : ℕ) (cs : List Cell) → at ≡ length front →
     HeadsFit (bare cs) →
     map (head_of (front ++ pool_of cs)) (records_from at cs) ≡ bare cs
@@ -110,6 +113,7 @@ heads_back front at (c ∷ cs) e f =
     (ap (λ (pool : List ℕ). map (head_of pool) (records_from (at + length own) cs)) again
     ∙ heads_back (front ++ own) (at + length own) cs long f.1)
 
+-- the records of a value and its pool, read back, are its tree
 pub records_are_tree : RecordsAreTree
 records_are_tree v h =
     let same : bare (nodes_of v) ≡ preorder v.tree = cells_preorder v.types v.ty v.tree in

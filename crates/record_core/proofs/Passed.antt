@@ -1,6 +1,8 @@
 -- Records that were added one after the other, and the tree that their nodes are.
-use Rattle.std.proofs.Common.{◌≡◌, ℕ, zero, suc, ◌+◌, ◌<◌, ◌⊎◌, Bool, true, false, List, [], ◌∷◌, ◌++◌}
-use Rattle.std.proofs.Common.{length, take, get_or, map, Option, Some, None, Ok, Err, refl, sym, ap, ◌∙◌}
+use Rattle.std.proofs.Common.{◌≡◌, ℕ, zero, suc, ◌+◌, ◌<◌, ◌⊎◌, Bool, true, false, List, [], ◌∷◌}
+use Rattle.std.proofs.Common.{◌++◌}
+use Rattle.std.proofs.Common.{length, take, get_or, map, Option, Some, None, Ok, Err, refl, sym, ap}
+use Rattle.std.proofs.Common.{◌∙◌}
 use Rattle.std.proofs.Common.{append-nil, append_assoc, arith, add-one, subst, inl, inr}
 use Rattle.std.specs.Prelude.{Result, ◌==◌, if◌then◌else◌}
 use Rattle.std.proofs.lemmas.Bool.{eqb-true}
@@ -53,10 +55,12 @@ next_by pool (r ∷ rs) b0 b zero d e h sound =
     let none : record_fault pool r b0 ≡ None = ap (record_fault pool r) same ∙ sound in
     rw none (ap (λ (c : Built). Ok (with_record pool r c)) same)
 next_by pool (r ∷ rs) b0 b (suc i) d e h sound =
-    let first = passed (record_fault pool r b0) (replay pool (take i rs) (with_record pool r b0)) b e
+    let first = passed (record_fault pool r b0) (replay pool (take i rs) (with_record pool r b0)) b
+    e
     in
     rw (first.0, next_by pool rs (with_record pool r b0) b i d first.1 (omega arith) sound) refl
 
+-- the same, with the next position written as a sum
 pub replay_next : (pool : List ℕ) (rs : List Record) (b0 b : Built) (i : ℕ) (d : Record) →
     replay pool (take i rs) b0 ≡ Ok b → i < length rs →
     record_fault pool (get_or rs i d) b ≡ None →
@@ -74,9 +78,11 @@ replay_stop pool (r ∷ rs) b0 b zero d f e h stop =
     let some : record_fault pool r b0 ≡ Some f = ap (record_fault pool r) same ∙ stop in
     rw some refl
 replay_stop pool (r ∷ rs) b0 b (suc i) d f e h stop =
-    let first = passed (record_fault pool r b0) (replay pool (take i rs) (with_record pool r b0)) b e
+    let first = passed (record_fault pool r b0) (replay pool (take i rs) (with_record pool r b0)) b
+    e
     in
-    rw (first.0, replay_stop pool rs (with_record pool r b0) b i d f first.1 (omega arith) stop) refl
+    let later = replay_stop pool rs (with_record pool r b0) b i d f first.1 (omega arith) stop in
+    rw (first.0, later) refl
 
 -- ---- what a call of the builder did
 
@@ -117,6 +123,7 @@ whole None n b v none h = by (is_complete b) h where
   by false h = absurd h
 whole (Some f) n b v none h = absurd cc
 
+-- where the builder says that a node is missing, that is reported after the last record
 pub missing : (o : Option BuildFault) (n : ℕ) (b : Built) (e : BuildFault × Built) → o ≡ None →
     Finishes (is_complete b) (finished b) b (Err e) →
     ReadsRecords o (ended n (Ok b)) (Err (records.Record n e.0))
@@ -144,22 +151,26 @@ one_more : (es : List Entry) (e : Entry) → map (λ (x : Entry). x.head) (es ++
     ≡ map (λ (x : Entry). x.head) es ++ e.head ∷ []
 one_more es e = map-append (λ (x : Entry). x.head) es (e ∷ [])
 
+-- what is not out of range holds
 in_range_is : (p : Bool) → in_range p ≡ None → p ≡ true
 in_range_is true e = refl
 in_range_is false e = absurd cc
 
 -- where a builder does not reject a node, the form that it wants suits it
 suited : (suits : Form → Option BuildFault) (w : Result Form BuildFault) →
-    ◌≡◌ {A = Option BuildFault} (elim w [ Ok f ↦ suits f | Err e ↦ Some e ]) None → (f : Form) × (suits f ≡ None)
+    ◌≡◌ {A = Option BuildFault} (elim w [ Ok f ↦ suits f | Err e ↦ Some e ]) None →
+    (f : Form) × (suits f ≡ None)
 suited suits (Ok f) e = (f, e)
 suited suits (Err x) e = absurd cc
 
+-- where so many fields are not rejected, the next type has as many
 fields_suit : (b : Built) (n : ℕ) (f : Form) → suits_fields_of b n f ≡ None →
     how_many_left (fields_part (next_layout b)) ≡ n
 fields_suit b n form.Fields e =
     eqb-true (how_many_left (fields_part (next_layout b))) n (in_range_is _ e)
 fields_suit b n _ e = absurd cc
 
+-- where an arm is not rejected, its place and its number of fields are not
 arm_suits : (o : Option BuildFault) (f : Form) → suits_arm_at o f ≡ None → o ≡ None
 arm_suits o form.Arm e = e
 arm_suits o _ e = absurd cc
@@ -190,6 +201,7 @@ found_node b q n (Some x) e = by (x.0 == q) refl e where
         ty = refl;
       }
 
+-- the same of the index of the arm
 index_node : (b : Built) (q n : ℕ) (index : Option ℕ) → indexed_fault b q n index ≡ None →
     HasNode b (with_index b index) (head.branch (tree.arm q) n)
 index_node b q n None e = absurd cc
@@ -223,6 +235,7 @@ pub record ShowsAll (old new : Built) (hs : List Head) : Type 0 where
   pub types : new.walk.types ≡ old.walk.types
   pub ty : new.ty ≡ old.ty
 
+-- where all records passed, the nodes are theirs
 all_shown : (pool : List ℕ) (rs : List Record) (b0 b : Built) → replay pool rs b0 ≡ Ok b →
     ShowsAll b0 b (map (head_of pool) rs)
 all_shown pool [] b0 b e =

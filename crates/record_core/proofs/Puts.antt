@@ -109,7 +109,8 @@ next_fits bytes ns i d at part h e is =
 
 -- one node more is put
 pub put_next : (bytes : List ℕ) (ns : List Node) (old new : List Record) (old_pool pool : List ℕ)
-    (at i : ℕ) (d : Node) (part : List ℕ) (r : Record) → ArePut bytes ns old new old_pool pool at i →
+    (at i : ℕ) (d : Node) (part : List ℕ) (r : Record) →
+    ArePut bytes ns old new old_pool pool at i →
     i < length ns → i < length new → part ≡ kept_in bytes (get_or ns i d).content →
     r ≡ record_of at (cell_shown bytes (get_or ns i d)) → at + length part ≤ length pool →
     ArePut bytes ns old (slice_set new i r) old_pool
@@ -151,6 +152,7 @@ records_stand bytes ns old new old_pool pool at i put e =
     ∙ ap (λ (rs : List Record). records_from 0 (cells_shown bytes ns) ++ rs) put.records_rest
     ∙ ap (λ (k : ℕ). records_from 0 (cells_shown bytes ns) ++ drop k old) long
 
+-- when all are put, their bytes stand in front of the pool
 pub pool_stands : (bytes : List ℕ) (ns : List Node) (old new : List Record)
     (old_pool pool : List ℕ) (at i : ℕ) → ArePut bytes ns old new old_pool pool at i →
     i ≡ length ns → StandsIn (pool_of (cells_shown bytes ns)) old_pool pool

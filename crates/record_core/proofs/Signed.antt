@@ -51,6 +51,7 @@ abbrev IsNarrow : Layout → Type 0
 IsNarrow (layout.plain (layout.signed k)) = k ≤ 16
 IsNarrow _ = Unit {0}
 
+-- the widest integer of these has sixteen bytes
 narrow_width : (w : IntegerWidth) → width_bytes w ≤ 16
 narrow_width width.Bits8 = omega arith
 narrow_width width.Bits16 = omega arith
@@ -58,23 +59,28 @@ narrow_width width.Bits32 = omega arith
 narrow_width width.Bits64 = omega arith
 narrow_width width.Bits128 = omega arith
 
+-- the same of a primitive's layout
 narrow_kind : (k : PrimitiveKind) → IsNarrow (kind_layout k)
 narrow_kind (K.Signed w) = narrow_width w
 narrow_kind _ = tt
 
+-- a sequence has no layout of a signed integer
 narrow_sequence : (t : ℕ) (e byte : Bool) → IsNarrow (sequence_layout t e byte)
 narrow_sequence t true byte = tt
 narrow_sequence t false true = tt
 narrow_sequence t false false = tt
 
+-- nor has an array
 narrow_array : (n t : ℕ) (byte : Bool) → IsNarrow (array_layout n t byte)
 narrow_array n t true = tt
 narrow_array n t false = tt
 
+-- nor has a compact
 narrow_compact : (o : Option Target) → IsNarrow (compact_layout o)
 narrow_compact (Some m) = tt
 narrow_compact None = tt
 
+-- the layout by a definition has at most sixteen bytes where it is a signed integer's
 narrow_sized : (r : List TypeInfo) (d : TypeDef) → IsNarrow (sized_layout r d)
 narrow_sized r (Def.Composite fs) = tt
 narrow_sized r (Def.Variant as') = tt
@@ -85,6 +91,7 @@ narrow_sized r (Def.Primitive p) = narrow_kind (kind_of p)
 narrow_sized r (Def.Compact t) = narrow_compact (target_of r t.0)
 narrow_sized r (Def.BitSequence store order) = tt
 
+-- the same of any type
 narrow_from : (r : List TypeInfo) (e : Bool) (d : Option TypeDef) →
     IsNarrow (layout_of_shape r e d)
 narrow_from r true d = tt
@@ -107,11 +114,13 @@ fits_more : (k : ℕ) (z : ℤ) → k ≤ 16 → FitsBytes k z → FitsSigned w1
 fits_more k (pos n) small h = omega (arith, sixteen_most k small, h)
 fits_more k (negsuc n) small h = omega (arith, sixteen_most k small, h)
 
+-- a run holds no signed integer
 run_fits : (k : RunKind) (s : List ℕ) → FitsLeaf (run_leaf k s)
 run_fits kind.Text s = tt
 run_fits kind.Bytes s = tt
 run_fits (kind.ByteArray n) s = tt
 
+-- a signed integer that its bytes spell fits 128 bits
 leaf_fits : (r : List TypeInfo) (t : ℕ) (p : Plain) (l : Leaf) (b : List ℕ) → AreBytes b →
     layout r t ≡ layout.plain p → SpelledBy (way_of p) l b → FitsLeaf l
 leaf_fits r t (layout.signed k) l b a e h =
@@ -138,6 +147,7 @@ front_bytes a b whole e h = by a b (subst AreBytes e h) where
 mutual
   unfolding Val
 
+  -- the signed integers of a value fit 128 bits
   pub tree_fits : (r : List TypeInfo) (t : ℕ) (v : Tree) (b : List ℕ) → AreBytes b → Val r t v b →
       FitsTree v
   tree_fits r t (leaf l) b a h = leaf_fits r t h.0 l b a h.1 h.2

@@ -1,5 +1,6 @@
 -- A value as records: a node is a few numbers, and its bytes lie in a pool beside them.
-use Rattle.std.specs.Prelude.{◌≡◌, ℕ, ◌+◌, ◌*◌, ◌/◌, ◌%◌, ◌^◌, ◌==◌, List, [], ◌∷◌, length, flat_map}
+use Rattle.std.specs.Prelude.{◌≡◌, ℕ, ◌+◌, ◌*◌, ◌/◌, ◌%◌, ◌^◌, ◌==◌, List, [], ◌∷◌, length}
+use Rattle.std.specs.Prelude.{flat_map}
 use Rattle.std.specs.Prelude.{map, nat_lt, if◌then◌else◌, slice_range}
 use Rattle.std.specs.Int.{w128, cast_unsigned}
 use Rattle.scale_core.specs.Number.{bool_byte}

@@ -15,7 +15,8 @@ pub const BOOL: u32 = 1;
 pub const CHAR: u32 = 2;
 /// The kind of an unsigned integer of at most 128 bits, whose halves are `low` and `high`.
 pub const UNSIGNED: u32 = 3;
-/// The kind of a signed integer, whose halves are `low` and `high`, in 128 bits of two's complement.
+/// The kind of a signed integer, whose halves are `low` and `high`, in 128 bits of two's
+/// complement.
 pub const SIGNED: u32 = 4;
 /// The kind of a compact integer, whose halves are `low` and `high`.
 pub const COMPACT: u32 = 5;
@@ -47,8 +48,8 @@ pub struct Record {
     pub children: u32,
     /// The position of a variant's arm in the list of arms.
     pub arm: u32,
-    /// The low half of a number, or where its bytes begin in the pool. If the node is a composite, a
-    /// tuple, a variant or a list, how many nodes its subtree has, with itself.
+    /// The low half of a number, or where its bytes begin in the pool. If the node is a composite,
+    /// a tuple, a variant or a list, how many nodes its subtree has, with itself.
     pub low: u64,
     /// The high half of a number, or how many bytes it has in the pool.
     pub high: u64,
@@ -119,8 +120,8 @@ fn branch(kind: u32, node: &Node, arm: u32, size: usize) -> Record
 }
 
 impl Record {
-    /// Creates the record of a node whose bytes begin at `at` in the pool that goes with the records.
-    /// `pool` is the one that goes with the nodes.
+    /// Creates the record of a node whose bytes begin at `at` in the pool that goes with the
+    /// records. `pool` is the one that goes with the nodes.
     #[inline(always)]
     pub(crate) fn of_node(node: &Node, pool: &[u8], at: u64) -> Record
         requires { IsInPool pool.now node.now.content }

@@ -1,11 +1,13 @@
 //! Reads a value back from records.
 
-ghost use Rattle.std.specs.Prelude.{◌≡◌, ◌<◌, ◌≤◌, ◌+◌, ◌==◌, true, SomeIff, MatchResult, IfOk, None, length, []};
+ghost use Rattle.std.specs.Prelude.{◌≡◌, ◌<◌, ◌≤◌, ◌+◌, ◌==◌, true, SomeIff, MatchResult, IfOk};
+ghost use Rattle.std.specs.Prelude.{None, length, []};
 ghost use Rattle.scale_core.specs.Number.{is_scalar};
 ghost use Rattle.grammar_core.specs.Preorder as head;
 ghost use Rattle.grammar_core.specs.Tree as tree;
 ghost use Rattle.value_core.specs.Built.{with_leaf};
-ghost use Rattle.value_core.specs.Refusals.{Adds, build_opening_fault, in_range, judged, suits_wide};
+ghost use Rattle.value_core.specs.Refusals.{Adds, build_opening_fault, in_range, judged};
+ghost use Rattle.value_core.specs.Refusals.{suits_wide};
 ghost use Rattle.value_core.specs.Walked.{start_of};
 ghost use Rattle.value_core.specs.declared.build_fault.BuildFault.TheVariants.{OutOfRange};
 ghost use Rattle.record_core.specs.Records.{range_of, scalar_head, tree_read};
@@ -26,8 +28,8 @@ use widths_core::Checked;
 /// Why records are no value of a type.
 #[derive(Clone, Copy, Debug, PartialEq, Eq)]
 pub enum RecordFault {
-    /// No value of the type can be begun: the registry lacks it, the depth limit is out of range, or
-    /// an allocation failed.
+    /// No value of the type can be begun: the registry lacks it, the depth limit is out of range,
+    /// or an allocation failed.
     Open(BuildFault),
     /// The record at this position is rejected. Where one is missing, this is their number.
     Record(usize, BuildFault),
@@ -38,17 +40,17 @@ pub enum RecordFault {
 /// # Errors
 ///
 /// `OutOfRange` if they don't lie in the pool.
-fn range_of<'p>(record: &Record, pool: &'p [u8]) -> Result<&'p [u8], BuildFault>
+fn range_of<'p>(node: &Record, pool: &'p [u8]) -> Result<&'p [u8], BuildFault>
     ensures { MatchResult result
-        (λ bytes. (record.now.low + record.now.high ≤ length pool.now)
-        × (bytes.now ≡ range_of pool.now record.now))
-        (λ e. (length pool.now < record.now.low + record.now.high) × (e ≡ OutOfRange)) }
+        (λ bytes. (node.now.low + node.now.high ≤ length pool.now)
+        × (bytes.now ≡ range_of pool.now node.now))
+        (λ e. (length pool.now < node.now.low + node.now.high) × (e ≡ OutOfRange)) }
 {
     let len = pool.len() as u64;
-    if record.low > len || record.high > len - record.low {
+    if node.low > len || node.high > len - node.low {
         return Err(BuildFault::OutOfRange);
     }
-    Ok(&pool[record.low as usize..(record.low + record.high) as usize])
+    Ok(&pool[node.low as usize..(node.low + node.high) as usize])
 }
 
 /// Returns the character of a code point, if there is one.
@@ -85,16 +87,16 @@ fn add_wide<A: Allocator>(builder: &mut Builder<'_, A>, bytes: &[u8]) -> Result<
 /// The fault of the record, and then that of the builder.
 fn add_pooled<A: Allocator>(
     builder: &mut Builder<'_, A>,
-    record: &Record,
+    node: &Record,
     pool: &[u8],
 ) -> Result<(), BuildFault>
-    requires least { TEXT ≤ record.now.kind }
-    requires most { record.now.kind ≤ WIDE }
-    ensures { Adds (record_fault pool.now record.now builder.old)
-        (with_record pool.now record.now builder.old) builder.old builder.new result }
+    requires least { TEXT ≤ node.now.kind }
+    requires most { node.now.kind ≤ WIDE }
+    ensures { Adds (record_fault pool.now node.now builder.old)
+        (with_record pool.now node.now builder.old) builder.old builder.new result }
 {
-    let bytes = range_of(record, pool)?;
-    match record.kind {
+    let bytes = range_of(node, pool)?;
+    match node.kind {
         TEXT => match from_utf8(bytes) {
             Ok(text) => builder.text(text),
             Err(fault) => Err(BuildFault::BadText {
@@ -111,27 +113,27 @@ fn add_pooled<A: Allocator>(
 /// # Errors
 ///
 /// The fault of the record, and then that of the builder.
-fn add_scalar<A: Allocator>(builder: &mut Builder<'_, A>, record: &Record) -> Result<(), BuildFault>
-    requires { record.now.kind ≤ COUNT }
-    ensures { Adds (first_fault (scalar_fault record.now)
-        (judged_node (scalar_head record.now) builder.old))
-        (with_node (scalar_head record.now) builder.old) builder.old builder.new result }
+fn add_scalar<A: Allocator>(builder: &mut Builder<'_, A>, node: &Record) -> Result<(), BuildFault>
+    requires { node.now.kind ≤ COUNT }
+    ensures { Adds (first_fault (scalar_fault node.now)
+        (judged_node (scalar_head node.now) builder.old))
+        (with_node (scalar_head node.now) builder.old) builder.old builder.new result }
 {
-    match record.kind {
+    match node.kind {
         EMPTY => builder.empty(),
-        BOOL => match record.low {
+        BOOL => match node.low {
             0 => builder.bool(false),
             1 => builder.bool(true),
             _ => Err(BuildFault::OutOfRange),
         },
-        CHAR => match character(record.low) {
+        CHAR => match character(node.low) {
             Some(character) => builder.char(character),
             None => Err(BuildFault::OutOfRange),
         },
-        UNSIGNED => builder.unsigned(record.number()),
-        SIGNED => builder.signed(record.number().cast_signed()),
-        COMPACT => builder.compact(record.number()),
-        _ => match u32::try_from(record.low) {
+        UNSIGNED => builder.unsigned(node.number()),
+        SIGNED => builder.signed(node.number().cast_signed()),
+        COMPACT => builder.compact(node.number()),
+        _ => match u32::try_from(node.low) {
             Ok(count) => builder.count(count),
             Err(_) => Err(BuildFault::OutOfRange),
         },
@@ -145,27 +147,27 @@ fn add_scalar<A: Allocator>(builder: &mut Builder<'_, A>, record: &Record) -> Re
 /// The fault of the record, and then that of the builder, which is unchanged.
 fn add<A: Allocator>(
     builder: &mut Builder<'_, A>,
-    record: &Record,
+    node: &Record,
     pool: &[u8],
 ) -> Result<(), BuildFault>
-    ensures { Adds (record_fault pool.now record.now builder.old)
-        (with_record pool.now record.now builder.old) builder.old builder.new result }
+    ensures { Adds (record_fault pool.now node.now builder.old)
+        (with_record pool.now node.now builder.old) builder.old builder.new result }
 {
-    match record.kind {
-        ..=COUNT => add_scalar(builder, record),
-        TEXT..=WIDE => add_pooled(builder, record, pool),
-        FIELDS => builder.fields_of(record.children),
-        ARM => builder.arm_at(record.arm, record.children),
-        LIST => builder.list(record.children),
+    match node.kind {
+        ..=COUNT => add_scalar(builder, node),
+        TEXT..=WIDE => add_pooled(builder, node, pool),
+        FIELDS => builder.fields_of(node.children),
+        ARM => builder.arm_at(node.arm, node.children),
+        LIST => builder.list(node.children),
         _ => Err(BuildFault::WrongKind),
     }
 }
 
-/// Builds the value, of the type `root` and within the depth limit, whose nodes the records are, with
-/// their bytes in the pool.
+/// Builds the value, of the type `root` and within the depth limit, whose nodes the records are,
+/// with their bytes in the pool.
 ///
-/// Of a record, `ty` isn't read, and `low` isn't if the node is a composite, a tuple, a variant or a
-/// list. The ranges of two records may overlap.
+/// Of a record, `ty` isn't read, and `low` isn't if the node is a composite, a tuple, a variant or
+/// a list. The ranges of two records may overlap.
 ///
 /// # Errors
 ///
@@ -173,9 +175,9 @@ fn add<A: Allocator>(
 ///   (`OutOfRange`), or an allocation fails (`OutOfMemory`).
 /// - `Record` with the position of the first record that is rejected, and why. By itself it has a
 ///   kind that there is not (`WrongKind`), a number outside the range of its kind, or a range that
-///   isn't in the pool (`OutOfRange`), or a text that is not UTF-8 (`BadText`). Else it is rejected by
-///   the builder, as [`Builder::empty`] and the other calls say; a number of children that isn't the
-///   one of its type is `OutOfRange`.
+///   isn't in the pool (`OutOfRange`), or a text that is not UTF-8 (`BadText`). Else it is rejected
+///   by the builder, as [`Builder::empty`] and the other calls say; a number of children that isn't
+///   the one of its type is `OutOfRange`.
 /// - `Record` with the number of records, and `UnfinishedValue`, if a node is missing.
 pub fn value_of_records<'r, A: Allocator + Clone>(
     alloc: A,
@@ -198,8 +200,8 @@ pub fn value_of_records<'r, A: Allocator + Clone>(
         Ok(builder) => builder,
         Err(fault) => return Err(RecordFault::Open(fault)),
     };
-    'records: for (at, record) in records.iter().enumerate() {
-        if let Err(fault) = add(&mut builder, record, pool) {
+    'records: for (at, node) in records.iter().enumerate() {
+        if let Err(fault) = add(&mut builder, node, pool) {
             return Err(RecordFault::Record(at, fault));
         }
     }

@@ -20,7 +20,8 @@ no_memory o id limits b old new a left = (Err value.Memory, tt, left)
 -- the JSON of the value that the bytes spell is written, unless an allocation failed
 pub value_written : (o : Opened) (id : ℕ) (limits : Limits) (b old new : List ℕ) (v : Seen)
     (a : Answer) →
-    ReadsValue (opening_fault o.checked.types id limits) (job_of o.checked.types id limits) b (Ok v) →
+    ReadsValue (opening_fault o.checked.types id limits) (job_of o.checked.types id limits) b
+    (Ok v) →
     WritesUnlessMemory (json_text v) old new a → WritesJson o id limits b old new a
 value_written o id limits b old new v a read (inl left) = no_memory o id limits b old new a left
 value_written o id limits b old new v a read (inr put) =

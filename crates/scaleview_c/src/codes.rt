@@ -41,11 +41,11 @@ pub struct Answer {
     pub code: u32,
     /// The position of the type that has an unknown reference, or the version of metadata.
     pub from: u32,
-    /// The place of a refusal in bytes, the position of a rejected record, where a registry ends, or
-    /// the number of bytes of a pool.
+    /// The place of a refusal in bytes, the position of a rejected record, where a registry ends,
+    /// or the number of bytes of a pool.
     pub at: u64,
-    /// The number of bytes of a text, of types, of records, or of bytes of a piece that belong to the
-    /// value.
+    /// The number of bytes of a text, of types, of records, or of bytes of a piece that belong to
+    /// the value.
     pub length: u64,
 }
 

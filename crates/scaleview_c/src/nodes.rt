@@ -73,8 +73,8 @@ fn write_nodes(
 ///
 /// # Errors
 ///
-/// `NO_HANDLE`, what `scaleview_decode` rejects, or `NO_ROOM` with the number of records in `length`
-/// and that of the pool's bytes in `at`; nothing is written.
+/// `NO_HANDLE`, what `scaleview_decode` rejects, or `NO_ROOM` with the number of records in
+/// `length` and that of the pool's bytes in `at`; nothing is written.
 #[unsafe(no_mangle)]
 pub extern "C" fn scaleview_decode_nodes(
     alloc: Global,
@@ -109,8 +109,8 @@ pub extern "C" fn scaleview_decode_nodes(
 ///
 /// # Errors
 ///
-/// `NO_HANDLE`, what `scaleview_finish` rejects, or `NO_ROOM` with the number of records in `length`
-/// and that of the pool's bytes in `at`; nothing is written.
+/// `NO_HANDLE`, what `scaleview_finish` rejects, or `NO_ROOM` with the number of records in
+/// `length` and that of the pool's bytes in `at`; nothing is written.
 #[unsafe(no_mangle)]
 pub extern "C" fn scaleview_finish_nodes(
     alloc: Global,
@@ -129,8 +129,7 @@ pub extern "C" fn scaleview_finish_nodes(
     };
     *answer = match &mut *held {
         Resource::Session(session) => {
-            let stage = mem::replace(&mut session.stage, Stage::Refused(ValueRefusal::Memory));
-            session.stage = stage.ended();
+            session.end();
             put_stage(&session.stage, nodes, pool)
         }
         Resource::Registry(_) => Answer::plain(NO_HANDLE),
@@ -181,9 +180,9 @@ fn write_encoded(
 ///
 /// # Errors
 ///
-/// `NO_HANDLE`, `UNKNOWN_TYPE`, `LIMIT_OUT_OF_RANGE`, `MEMORY`, the code of the first record that is
-/// rejected, with its position in `at`, or `NO_ROOM` with the number of bytes in `length`; nothing is
-/// written.
+/// `NO_HANDLE`, `UNKNOWN_TYPE`, `LIMIT_OUT_OF_RANGE`, `MEMORY`, the code of the first record that
+/// is rejected, with its position in `at`, or `NO_ROOM` with the number of bytes in `length`;
+/// nothing is written.
 #[unsafe(no_mangle)]
 pub extern "C" fn scaleview_encode_nodes(
     alloc: Global,

@@ -11,6 +11,7 @@ use budget_core::Budget;
 use decode_core::Decoder;
 use scale_calls::ValueRefusal;
 use std::alloc::Global;
+use std::mem;
 use value_core::Value;
 
 /// The stage of a value.
@@ -31,6 +32,16 @@ pub struct Session {
     pub registry: &'static Opened,
     /// The memory that the value, and its text while it is written, may take.
     pub budget: Budget<Global>,
+}
+
+impl Session {
+    /// Ends the value, if it has not ended.
+    pub(crate) fn end(&mut self)
+        ensures { Ends self.old.stage self.new.stage }
+    {
+        let stage = mem::replace(&mut self.stage, Stage::Refused(ValueRefusal::Memory));
+        self.stage = stage.ended();
+    }
 }
 
 impl Stage {
@@ -81,7 +92,7 @@ impl Stage {
     }
 
     /// Ends the value, if it has not ended.
-    pub(crate) fn ended(self) -> Stage
+    fn ended(self) -> Stage
         ensures { Ends self result }
     {
         match self {

@@ -201,8 +201,7 @@ pub extern "C" fn scaleview_finish(
     };
     *answer = match &mut *held {
         Resource::Session(session) => {
-            let stage = mem::replace(&mut session.stage, Stage::Refused(ValueRefusal::Memory));
-            session.stage = stage.ended();
+            session.end();
             session.stage.put(alloc, &session.budget, out)
         }
         Resource::Registry(_) => Answer::plain(NO_HANDLE),

@@ -30,8 +30,10 @@ nodes-preserved c =
 
 pub returns-clause-records : goal.returns-clause-records
 returns-clause-records c = records_stand c.args.bytes.now c.args.nodes.now c.args.records.now
-    c.nodes.records c.args.pool.now c.nodes.pool c.nodes.at c.nodes.i c.nodes.invariant (omega arith)
+    c.nodes.records c.args.pool.now c.nodes.pool c.nodes.at c.nodes.i c.nodes.invariant
+    (omega arith)
 
 pub returns-clause-pool : goal.returns-clause-pool
 returns-clause-pool c = pool_stands c.args.bytes.now c.args.nodes.now c.args.records.now
-    c.nodes.records c.args.pool.now c.nodes.pool c.nodes.at c.nodes.i c.nodes.invariant (omega arith)
+    c.nodes.records c.args.pool.now c.nodes.pool c.nodes.at c.nodes.i c.nodes.invariant
+    (omega arith)
