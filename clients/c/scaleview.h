@@ -1,14 +1,17 @@
-/* Decodes SCALE, the binary codec of Polkadot and Substrate chains, into JSON text, using a registry of types.
+/* Decodes SCALE, the binary codec of Polkadot and Substrate chains, into JSON text or records, and encodes records, using a
+ * registry of types.
  *
- * The library behind these calls is proved: whatever bytes it gets, a call returns a text, or a code and a place. The proof
- * covers the library, not its caller, who must keep these rules:
+ * The library behind these calls is proved: whatever bytes it gets, a call returns what it promises, or a code and a place.
+ * The proof covers the library, not its caller, who must keep these rules:
  *
  * - No pointer is NULL, even if a length is 0, except `inside` of a handle. What a call writes to must not overlap anything
  *   else that it is given. No call keeps a pointer to bytes.
  * - A handle is null or was set by a call. A null handle, or one of the other kind, is answered by SCALEVIEW_NO_HANDLE. A
  *   copy of a closed or freed handle can't be recognised, and must not be used.
- * - A handle is used by one call at a time. So are a registry and its sessions together, because they count one another
- *   without a lock. Different registries, each with its sessions, may be used on different threads.
+ * - scaleview_types, the calls that describe types, scaleview_decode, scaleview_decode_nodes and scaleview_encode_nodes only
+ *   read a registry: any number of threads may make them on one registry at the same time. Every other call changes its
+ *   handles, and the count of sessions that a registry keeps without a lock: it must be the only one on this registry and its
+ *   sessions while it runs.
  *
  * Places and lengths are in bytes.
  */
@@ -65,7 +68,18 @@ enum scaleview_code {
     SCALEVIEW_VALUE_BIT_SEQUENCE = 310,
     SCALEVIEW_VALUE_BAD_COMPACT = 311,
     SCALEVIEW_VALUE_TOO_LONG = 312,
-    SCALEVIEW_VALUE_TRAILING_BYTES = 313 /* bytes follow the value, which ends at `at` */
+    SCALEVIEW_VALUE_TRAILING_BYTES = 313, /* bytes follow the value, which ends at `at` */
+
+    /* The node at the position `at` is rejected. */
+    SCALEVIEW_NODES_TOO_DEEP = 401,       /* it is deeper than `depth` */
+    SCALEVIEW_NODES_NO_FINITE_VALUE = 402, /* its type has no finite value */
+    SCALEVIEW_NODES_BIT_SEQUENCE = 403,   /* its type is a bit sequence, whose values are not supported */
+    SCALEVIEW_NODES_BAD_COMPACT = 404,    /* its type is a compact that wraps no unsigned integer */
+    SCALEVIEW_NODES_WRONG_KIND = 405,     /* it is of another kind than its type, of no kind, or follows a complete value */
+    SCALEVIEW_NODES_OUT_OF_RANGE = 406,   /* a number, a length, a range of the pool or a number of children is out of range */
+    SCALEVIEW_NODES_NO_SUCH_VARIANT = 407, /* no arm has this position, or an earlier arm has its index */
+    SCALEVIEW_NODES_UNFINISHED_VALUE = 408, /* a node is missing; `at` is the number of nodes */
+    SCALEVIEW_NODES_BAD_TEXT = 409        /* a text is not UTF-8 */
 };
 
 /* The kinds of types, in the order of scale-info's TypeDef. */
@@ -117,14 +131,45 @@ typedef struct scaleview_type_shape {
     uint32_t parts;       /* the number of fields of a composite, of members of a tuple, or of arms of a variant */
 } scaleview_type_shape;
 
+/* The kinds of nodes. */
+enum scaleview_node_kind {
+    SCALEVIEW_NODE_EMPTY = 0,    /* the one value of a type that takes no bytes */
+    SCALEVIEW_NODE_BOOL = 1,     /* `low` is 0 or 1 */
+    SCALEVIEW_NODE_CHAR = 2,     /* `low` is the code point */
+    SCALEVIEW_NODE_UNSIGNED = 3, /* an unsigned integer of at most 128 bits, its halves in `low` and `high` */
+    SCALEVIEW_NODE_SIGNED = 4,   /* a signed one, as 128 bits of two's complement */
+    SCALEVIEW_NODE_COMPACT = 5,  /* a compact integer, its halves in `low` and `high` */
+    SCALEVIEW_NODE_COUNT = 6,    /* a sequence of `low` elements that take no bytes */
+    SCALEVIEW_NODE_TEXT = 7,     /* a text: `high` bytes of UTF-8 from the position `low` of the pool on */
+    SCALEVIEW_NODE_BYTES = 8,    /* a sequence or an array of u8: `high` bytes from the position `low` of the pool on */
+    SCALEVIEW_NODE_WIDE = 9,     /* a 256-bit integer: 32 bytes, the lowest first, from the position `low` of the pool on */
+    SCALEVIEW_NODE_FIELDS = 10,  /* a composite or a tuple */
+    SCALEVIEW_NODE_ARM = 11,     /* a variant, whose arm is at the position `arm` of its type */
+    SCALEVIEW_NODE_LIST = 12     /* an array or a sequence of another type than u8 */
+};
+
+/* A node of a value. The nodes of a value stand in the order of their bytes, each before its children, and the bytes of its
+ * texts, byte runs and 256-bit integers in the same order in a pool beside them. Numbers are 0 unless the kind gives them a
+ * meaning. */
+typedef struct scaleview_node {
+    uint32_t kind;     /* of enum scaleview_node_kind */
+    uint32_t type;     /* the position of its type */
+    uint32_t children; /* how many children it has; each follows with its own subtree */
+    uint32_t arm;      /* the position of a variant's arm, which is not its index */
+    uint64_t low;      /* a number's low half, or a place in the pool; of a composite, a tuple, a variant or a list how many
+                        * nodes its subtree has, itself included */
+    uint64_t high;     /* a number's high half, or how many bytes it has in the pool */
+} scaleview_node;
+
 /* What a call reports besides its code, which is repeated here. Numbers are 0 unless the code gives them a meaning. */
 typedef struct scaleview_answer {
     uint32_t code;
     uint32_t from;   /* the position of the type that has the unknown reference; the version of an open registry's metadata;
                       * the type of a part; or the index of an arm */
     uint64_t at;     /* the place of a refusal, or where an open registry ends, in bytes from the start of the input; 1 if a
-                      * part has a name; the number of an arm's fields; or the position of a type */
-    uint64_t length; /* the number of bytes of a text, of types, or of bytes of a piece that belong to the value */
+                      * part has a name; the number of an arm's fields; the position of a type or of a node; or the number of
+                      * bytes of a pool */
+    uint64_t length; /* the number of bytes of a text, of types, of nodes, or of bytes of a piece that belong to the value */
 } scaleview_answer;
 
 /* An open registry, or null: `inside` is NULL, as after `= {NULL}` and after scaleview_close. It may be copied. All copies
@@ -233,6 +278,29 @@ uint32_t scaleview_find(scaleview_registry registry, uint32_t from, const uint8_
 uint32_t scaleview_decode(scaleview_registry registry, uint32_t type, uint16_t depth, uint64_t limit, uint64_t memory,
                           const uint8_t *bytes, size_t length, uint8_t *out, size_t room, scaleview_answer *answer);
 
+/* Decodes a value as scaleview_decode does, and writes its nodes to the front of `nodes` and their bytes to the front of
+ * `pool`: `answer->length` nodes and `answer->at` bytes. `memory` bounds the value alone, since there is no text.
+ *
+ * If either has no room, the call returns SCALEVIEW_NO_ROOM with the same numbers. Otherwise it returns what scaleview_decode
+ * does. Unless it returns SCALEVIEW_OK, nothing is written. */
+uint32_t scaleview_decode_nodes(scaleview_registry registry, uint32_t type, uint16_t depth, uint64_t limit, uint64_t memory,
+                                const uint8_t *bytes, size_t length, scaleview_node *nodes, size_t node_room, uint8_t *pool,
+                                size_t pool_room, scaleview_answer *answer);
+
+/* Encodes the value, of the type at this position, whose nodes these are, and writes its bytes to the front of `out`:
+ * `answer->length` bytes, which scaleview_decode_nodes turns into the same nodes. No node is deeper than `depth`, up to 1024.
+ * `memory` is the most bytes that the library allocates at once for the value and its bytes; 0 stands for no budget.
+ *
+ * Of a node, `type` is not read, nor is `low` of a composite, a tuple, a variant or a list. Two nodes may have the same bytes
+ * of the pool.
+ *
+ * Otherwise it returns SCALEVIEW_NO_ROOM, SCALEVIEW_UNKNOWN_TYPE, SCALEVIEW_LIMIT_OUT_OF_RANGE, SCALEVIEW_MEMORY,
+ * SCALEVIEW_NO_HANDLE, or a code of SCALEVIEW_NODES_* with the position of the first node that is rejected in
+ * `answer->at`, and `out` is unchanged. */
+uint32_t scaleview_encode_nodes(scaleview_registry registry, uint32_t type, uint16_t depth, uint64_t memory,
+                                const scaleview_node *nodes, size_t count, const uint8_t *pool, size_t pool_length,
+                                uint8_t *out, size_t room, scaleview_answer *answer);
+
 /* Starts a value whose bytes come in pieces. The numbers are those of scaleview_decode, and `memory` bounds what all calls on
  * the session hold. The registry can't be closed until the session is freed.
  *
@@ -251,8 +319,8 @@ uint32_t scaleview_start(scaleview_registry registry, uint32_t type, uint16_t de
 uint32_t scaleview_feed(scaleview_session *session, const uint8_t *piece, size_t length, scaleview_answer *answer);
 
 /* Report the number of bytes taken of all pieces, of nodes held, and of bytes of texts and byte runs held, in
- * `answer->length`, of a value that has not ended. After a refusal no nodes and no bytes are held; after scaleview_finish all
- * three numbers are 0. Otherwise they return SCALEVIEW_NO_HANDLE. */
+ * `answer->length`. After a refusal no nodes and no bytes are held. After scaleview_finish the number of bytes taken is 0, and
+ * the others are those of the value, which is kept. Otherwise they return SCALEVIEW_NO_HANDLE. */
 uint32_t scaleview_taken(scaleview_session *session, scaleview_answer *answer);
 uint32_t scaleview_nodes(scaleview_session *session, scaleview_answer *answer);
 uint32_t scaleview_text_bytes(scaleview_session *session, scaleview_answer *answer);
@@ -265,6 +333,10 @@ uint32_t scaleview_text_bytes(scaleview_session *session, scaleview_answer *answ
  * that refusal, also SCALEVIEW_MEMORY; every later call returns the same. No piece is taken afterwards: scaleview_feed then
  * returns SCALEVIEW_OK for a complete value, and that refusal for others. Otherwise it returns SCALEVIEW_NO_HANDLE. */
 uint32_t scaleview_finish(scaleview_session *session, uint8_t *out, size_t room, scaleview_answer *answer);
+
+/* Ends the value as scaleview_finish does, and writes its nodes as scaleview_decode_nodes does. It needs no memory. */
+uint32_t scaleview_finish_nodes(scaleview_session *session, scaleview_node *nodes, size_t node_room, uint8_t *pool,
+                                size_t pool_room, scaleview_answer *answer);
 
 /* Frees a session, sets it to null and returns SCALEVIEW_OK, or SCALEVIEW_NO_HANDLE if it is null. */
 uint32_t scaleview_free(scaleview_session *session);
