@@ -40,7 +40,8 @@ static void check(const char *what, bool is_so, long request) {
     }
 }
 
-static uint8_t bytes[2][1 << 16], out[1 << 20];
+static uint8_t bytes[2][1 << 16], out[1 << 20], pool[1 << 20];
+static scaleview_node nodes[1 << 16];
 
 static size_t read_file(const char *path, uint8_t *to) {
     FILE *file = fopen(path, "rb");
@@ -70,6 +71,15 @@ static int run(size_t registry_length, uint32_t type, size_t length, long reques
     code = scaleview_decode(registry, type, 64, 1 << 24, 0, bytes[1], length, out, sizeof out, &answer);
     check("a value", is_answer(code), request);
     wants += code == SCALEVIEW_MEMORY;
+    scaleview_answer room;
+    code = scaleview_decode_nodes(registry, type, 64, 1 << 24, 0, bytes[1], length, nodes, 1 << 16, pool, sizeof pool, &room);
+    check("nodes", is_answer(code), request);
+    wants += code == SCALEVIEW_MEMORY;
+    if (code == SCALEVIEW_OK) {
+        code = scaleview_encode_nodes(registry, type, 64, 0, nodes, room.length, pool, room.at, out, sizeof out, &answer);
+        check("encoded", is_answer(code) && (code == SCALEVIEW_MEMORY || answer.length == length), request);
+        wants += code == SCALEVIEW_MEMORY;
+    }
     code = scaleview_start(registry, type, 64, 1 << 24, 0, &session, &answer);
     check("started or not", code == SCALEVIEW_OK ? session.inside != NULL : code == SCALEVIEW_MEMORY && !session.inside, request);
     bool wanted = code == SCALEVIEW_MEMORY;

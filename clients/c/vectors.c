@@ -1,14 +1,15 @@
 /* Checks the tables of test vectors: each registry's answer and type lines, and each value whole and in pieces of 1, 7 and
- * 4096 bytes, with what a session holds.
+ * 4096 bytes, with what a session holds, as nodes by one call and by a session, and back from its nodes.
  *
  *   vectors registries.tsv values.tsv
  */
+#include "node_json.h"
 #include "scaleview.h"
 #include <stdio.h>
 #include <stdlib.h>
 #include <string.h>
 
-enum { COLUMNS = 11, TEXT_ROOM = 1 << 20 };
+enum { COLUMNS = 11, TEXT_ROOM = 1 << 20, NODE_ROOM = 1 << 16 };
 
 static unsigned rows = 0, ways = 0, wrong = 0;
 
@@ -139,6 +140,28 @@ static struct text lines_of(scaleview_registry registry, uint8_t *out) {
     return (struct text){lines, length};
 }
 
+/* Each type's path is the one of its line, and finds it. */
+static void check_paths(struct text name, scaleview_registry registry, uint8_t *out) {
+    uint8_t *path = allocated(malloc(TEXT_ROOM)), *quoted = allocated(malloc(TEXT_ROOM));
+    scaleview_answer answer;
+    scaleview_types(registry, &answer);
+    uint64_t count = answer.length;
+    for (uint32_t type = 0; type < count; type++) {
+        scaleview_type_line(registry, type, out, TEXT_ROOM, &answer);
+        struct text line = {(char *)out, (size_t)answer.length - 1};
+        scaleview_path(registry, type, path, TEXT_ROOM, &answer);
+        struct node_text text = {registry, NULL, (char *)quoted};
+        put_string(&text, path, (size_t)answer.length);
+        size_t length = (size_t)(text.at - (char *)quoted);
+        bool ends = length <= line.length && !memcmp(line.at + line.length - length, quoted, length);
+        check(name, "path", line, ends ? line : (struct text){(char *)quoted, length});
+        scaleview_find(registry, type, path, (size_t)answer.length, &answer);
+        check_number(name, "find", type, answer.code == SCALEVIEW_OK ? answer.at : UINT64_MAX);
+    }
+    free(path);
+    free(quoted);
+}
+
 /* What the call is to answer to all bytes of a registry's row: the first refusal, or nothing. */
 static struct text registry_refusal(struct text row[COLUMNS], size_t length, char line[128]) {
     struct text read = row[3], none = text_of("");
@@ -164,6 +187,7 @@ static void check_registry(struct text row[COLUMNS], uint8_t *out) {
         struct text lines = lines_of(registry, out);
         check(row[0], "types", row[5], lines);
         free((char *)lines.at);
+        check_paths(row[0], registry, out);
         scaleview_close(&registry);
     }
     free(bytes);
@@ -198,6 +222,81 @@ static void check_whole(const struct value *value, uint8_t *out) {
     scaleview_decode(value->registry, value->type, value->depth, value->limit, 0, value->bytes, value->length, out, TEXT_ROOM,
                      &answer);
     check(value->name, "decode", value_answer(value, false, wanted), shown(answer, out, found));
+}
+
+/* The nodes of a value, and their bytes. */
+struct nodes {
+    scaleview_node *at;
+    uint8_t *pool;
+    scaleview_answer answer;
+};
+
+/* Room for the nodes of a value, which the caller frees. */
+static struct nodes node_room(void) {
+    return (struct nodes){allocated(calloc(NODE_ROOM, sizeof(scaleview_node))), allocated(calloc(1, TEXT_ROOM)), {0}};
+}
+
+static void free_nodes(struct nodes nodes) {
+    free(nodes.at);
+    free(nodes.pool);
+}
+
+static bool same_nodes(struct nodes one, struct nodes other) {
+    size_t count = (size_t)one.answer.length, bytes = (size_t)one.answer.at;
+    return one.answer.code == other.answer.code && one.answer.length == other.answer.length &&
+           one.answer.at == other.answer.at && !memcmp(one.at, other.at, count * sizeof *one.at) &&
+           !memcmp(one.pool, other.pool, bytes);
+}
+
+/* Nodes that are decoded show the value's JSON, are the table's number, and are encoded as the value's bytes, of which they
+ * are decoded again; one node less has no room, and is rejected. */
+static void check_back(const struct value *value, struct nodes nodes, uint8_t *out) {
+    char found[128];
+    scaleview_answer answer;
+    size_t count = (size_t)nodes.answer.length, bytes = (size_t)nodes.answer.at;
+    check(value->name, "node json", value->json,
+          (struct text){(char *)out, node_json(value->registry, nodes.at, nodes.pool, (char *)out)});
+    check_number(value->name, "node count", value->nodes, count);
+    uint32_t code = scaleview_encode_nodes(value->registry, value->type, value->depth, 0, nodes.at, count, nodes.pool, bytes,
+                                           out, TEXT_ROOM, &answer);
+    check(value->name, "encode", (struct text){(const char *)value->bytes, value->length}, shown(answer, out, found));
+    struct nodes again = node_room();
+    scaleview_decode_nodes(value->registry, value->type, value->depth, value->limit, 0, out, (size_t)answer.length, again.at,
+                           NODE_ROOM, again.pool, TEXT_ROOM, &again.answer);
+    check(value->name, "decoded again", text_of("same"), text_of(code == SCALEVIEW_OK && same_nodes(nodes, again) ? "same" : "other"));
+    scaleview_encode_nodes(value->registry, value->type, value->depth, 0, nodes.at, count - 1, nodes.pool, bytes, out, TEXT_ROOM,
+                           &answer);
+    bool is_rejected = answer.code == SCALEVIEW_NODES_UNFINISHED_VALUE && answer.at == count - 1;
+    check(value->name, "one node less", text_of("rejected"), text_of(is_rejected ? "rejected" : "taken"));
+    code = scaleview_decode_nodes(value->registry, value->type, value->depth, value->limit, 0, value->bytes, value->length,
+                                  again.at, count - 1, again.pool, bytes, &again.answer);
+    bool says = code == SCALEVIEW_NO_ROOM && again.answer.length == count && again.answer.at == bytes;
+    check(value->name, "room for one node less", text_of("none"), text_of(says ? "none" : "enough"));
+    free_nodes(again);
+}
+
+static void check_nodes(const struct value *value, uint8_t *out) {
+    char wanted[128], found[128];
+    struct nodes nodes = node_room(), by_session = node_room();
+    scaleview_session session = {NULL};
+    scaleview_answer answer;
+    uint32_t code = scaleview_decode_nodes(value->registry, value->type, value->depth, value->limit, 0, value->bytes,
+                                           value->length, nodes.at, NODE_ROOM, nodes.pool, TEXT_ROOM, &nodes.answer);
+    if (code == SCALEVIEW_OK)
+        check_back(value, nodes, out);
+    else
+        check(value->name, "nodes", value_answer(value, false, wanted), told(nodes.answer, found));
+    if (scaleview_start(value->registry, value->type, value->depth, value->limit, 0, &session, &answer) == SCALEVIEW_OK) {
+        scaleview_feed(&session, value->bytes, value->length, &answer);
+        scaleview_finish_nodes(&session, by_session.at, NODE_ROOM, by_session.pool, TEXT_ROOM, &by_session.answer);
+        bool is_same = code == SCALEVIEW_VALUE_TRAILING_BYTES ? by_session.answer.code == SCALEVIEW_OK
+                       : code == SCALEVIEW_OK                 ? same_nodes(nodes, by_session)
+                                                              : by_session.answer.code == code;
+        check(value->name, "nodes by a session", text_of("same"), text_of(is_same ? "same" : "other"));
+        scaleview_free(&session);
+    }
+    free_nodes(nodes);
+    free_nodes(by_session);
 }
 
 static void check_held(const struct value *value, scaleview_session *session) {
@@ -259,6 +358,7 @@ static void check_value(struct text registries, struct text row[COLUMNS], uint8_
     value.registry = registry_named(registries, row[1]);
     rows++;
     check_whole(&value, out);
+    check_nodes(&value, out);
     check_pieces(&value, 1, out);
     check_pieces(&value, 7, out);
     check_pieces(&value, 4096, out);

@@ -1,0 +1,194 @@
+/* Writes the nodes of a value as the JSON that scaleview_decode writes, by the calls that describe types. It shows how nodes
+ * are walked; the tables of test vectors are checked by it. */
+#ifndef NODE_JSON_H
+#define NODE_JSON_H
+#include "scaleview.h"
+#include <stdio.h>
+#include <stdlib.h>
+#include <string.h>
+
+enum { NAME_ROOM = 1 << 12 };
+
+/* Nodes with their pool and their registry, and a text that is written; `at` is its end. */
+struct node_text {
+    scaleview_registry registry;
+    const uint8_t *pool;
+    char *at;
+};
+
+/* A field of an object: its name, and which child of its node it is. */
+struct node_field {
+    uint8_t *name;
+    size_t length;
+    uint32_t child;
+};
+
+static inline void put_bytes(struct node_text *text, const void *bytes, size_t length) {
+    memcpy(text->at, bytes, length);
+    text->at += length;
+}
+
+static inline void put_string(struct node_text *text, const uint8_t *bytes, size_t length) {
+    static const char short_escapes[] = "\b\f\n\r\t\"\\", letters[] = "bfnrt\"\\";
+    *text->at++ = '"';
+    for (size_t i = 0; i < length; i++) {
+        const char *found = bytes[i] ? strchr(short_escapes, bytes[i]) : NULL;
+        if (found)
+            text->at += sprintf(text->at, "\\%c", letters[found - short_escapes]);
+        else if (bytes[i] < 0x20)
+            text->at += sprintf(text->at, "\\u%04x", bytes[i]);
+        else
+            *text->at++ = (char)bytes[i];
+    }
+    *text->at++ = '"';
+}
+
+static inline void put_char(struct node_text *text, uint32_t code) {
+    uint8_t utf8[4];
+    size_t length = code < 0x80 ? 1 : code < 0x800 ? 2 : code < 0x10000 ? 3 : 4;
+    static const uint8_t leads[] = {0, 0, 0xc0, 0xe0, 0xf0};
+    for (size_t i = length; i-- > 1; code >>= 6) utf8[i] = (uint8_t)(0x80 | (code & 0x3f));
+    utf8[0] = (uint8_t)(leads[length] | code);
+    put_string(text, utf8, length);
+}
+
+/* The decimal digits of an integer of two halves. */
+static inline void put_digits(struct node_text *text, uint64_t high, uint64_t low) {
+    char digits[40];
+    size_t count = 0;
+    unsigned __int128 number = (unsigned __int128)high << 64 | low;
+    do digits[count++] = (char)('0' + (unsigned)(number % 10));
+    while ((number /= 10) > 0);
+    while (count > 0) *text->at++ = digits[--count];
+}
+
+/* A text of the hexadecimal digits of bytes. */
+static inline void put_hex(struct node_text *text, const uint8_t *bytes, uint64_t length, bool backwards) {
+    put_bytes(text, "\"0x", 3);
+    for (uint64_t i = 0; i < length; i++) text->at += sprintf(text->at, "%02x", bytes[backwards ? length - 1 - i : i]);
+    *text->at++ = '"';
+}
+
+/* What the values of a type that wraps one primitive are, as a compact does. */
+static inline uint32_t primitive_of(scaleview_registry registry, uint32_t type) {
+    scaleview_type_shape shape;
+    scaleview_answer answer;
+    uint8_t name[NAME_ROOM];
+    while (scaleview_type(registry, type, &shape, &answer) == SCALEVIEW_OK) {
+        if (shape.kind == SCALEVIEW_PRIMITIVE) return shape.primitive;
+        if (shape.kind == SCALEVIEW_COMPACT) {
+            type = shape.element;
+        } else {
+            if (scaleview_part(registry, type, 0, name, sizeof name, &answer) != SCALEVIEW_OK) break;
+            type = answer.from;
+        }
+    }
+    return SCALEVIEW_U8;
+}
+
+/* An integer of at most 128 bits, as a text if its type has more than eight bytes. */
+static inline void put_integer(struct node_text *text, const scaleview_node *node) {
+    uint32_t primitive = primitive_of(text->registry, node->type);
+    bool is_text = primitive == SCALEVIEW_U128 || primitive == SCALEVIEW_I128;
+    bool is_negative = node->kind == SCALEVIEW_NODE_SIGNED && node->high >> 63;
+    if (is_text) *text->at++ = '"';
+    if (is_negative) *text->at++ = '-';
+    put_digits(text, is_negative ? ~node->high + (node->low == 0) : node->high, is_negative ? 0 - node->low : node->low);
+    if (is_text) *text->at++ = '"';
+}
+
+static inline int by_name(const void *one, const void *other) {
+    const struct node_field *a = one, *b = other;
+    size_t length = a->length < b->length ? a->length : b->length;
+    int order = length ? memcmp(a->name, b->name, length) : 0;
+    return order ? order : (a->length > b->length) - (a->length < b->length);
+}
+
+/* The names of a node's fields in order; false if one has none or two are the same. */
+static inline bool read_names(struct node_text *text, const scaleview_node *node, struct node_field *fields) {
+    bool are_named = node->children > 0;
+    for (uint32_t i = 0; i < node->children; i++) {
+        scaleview_answer answer;
+        struct node_field *field = &fields[i];
+        *field = (struct node_field){malloc(NAME_ROOM), 0, i};
+        if (!field->name) exit(4);
+        if (node->kind == SCALEVIEW_NODE_ARM)
+            scaleview_arm_field(text->registry, node->type, node->arm, i, field->name, NAME_ROOM, &answer);
+        else
+            scaleview_part(text->registry, node->type, i, field->name, NAME_ROOM, &answer);
+        if (answer.code != SCALEVIEW_OK) exit(5);
+        field->length = (size_t)answer.length;
+        are_named = are_named && answer.at == 1;
+    }
+    if (are_named) qsort(fields, node->children, sizeof *fields, by_name);
+    for (uint32_t i = 1; i < node->children && are_named; i++) are_named = by_name(&fields[i - 1], &fields[i]) != 0;
+    return are_named;
+}
+
+static inline const scaleview_node *after(const scaleview_node *node) {
+    return node + (node->kind < SCALEVIEW_NODE_FIELDS ? 1 : node->low);
+}
+
+static inline void put_node(struct node_text *text, const scaleview_node *node);
+
+/* The children of a node: an object if `fields` has their names, and else an array. */
+static inline void put_children(struct node_text *text, const scaleview_node *node, const struct node_field *fields) {
+    *text->at++ = fields ? '{' : '[';
+    const scaleview_node *next = node + 1;
+    for (uint32_t i = 0; i < node->children; i++) {
+        if (i > 0) *text->at++ = ',';
+        if (fields) {
+            put_string(text, fields[i].name, fields[i].length);
+            *text->at++ = ':';
+            next = node + 1;
+            for (uint32_t child = 0; child < fields[i].child; child++) next = after(next);
+        }
+        put_node(text, next);
+        next = after(next);
+    }
+    *text->at++ = fields ? '}' : ']';
+}
+
+static inline void put_fields(struct node_text *text, const scaleview_node *node) {
+    struct node_field *fields = calloc(node->children + 1, sizeof *fields);
+    if (!fields) exit(4);
+    put_children(text, node, read_names(text, node, fields) ? fields : NULL);
+    for (uint32_t i = 0; i < node->children; i++) free(fields[i].name);
+    free(fields);
+}
+
+static inline void put_arm(struct node_text *text, const scaleview_node *node) {
+    uint8_t name[NAME_ROOM];
+    scaleview_answer answer;
+    if (scaleview_arm(text->registry, node->type, node->arm, name, sizeof name, &answer) != SCALEVIEW_OK) exit(5);
+    *text->at++ = '{';
+    put_string(text, name, (size_t)answer.length);
+    *text->at++ = ':';
+    put_fields(text, node);
+    *text->at++ = '}';
+}
+
+static inline void put_node(struct node_text *text, const scaleview_node *node) {
+    const uint8_t *bytes = text->pool + node->low;
+    switch (node->kind) {
+    case SCALEVIEW_NODE_EMPTY: put_bytes(text, "null", 4); return;
+    case SCALEVIEW_NODE_BOOL: text->at += sprintf(text->at, "%s", node->low ? "true" : "false"); return;
+    case SCALEVIEW_NODE_CHAR: put_char(text, (uint32_t)node->low); return;
+    case SCALEVIEW_NODE_COUNT: text->at += sprintf(text->at, "{\"count\":%llu}", (unsigned long long)node->low); return;
+    case SCALEVIEW_NODE_TEXT: put_string(text, bytes, (size_t)node->high); return;
+    case SCALEVIEW_NODE_BYTES: put_hex(text, bytes, node->high, false); return;
+    case SCALEVIEW_NODE_WIDE: put_hex(text, bytes, node->high, true); return;
+    case SCALEVIEW_NODE_FIELDS: put_fields(text, node); return;
+    case SCALEVIEW_NODE_ARM: put_arm(text, node); return;
+    case SCALEVIEW_NODE_LIST: put_children(text, node, NULL); return;
+    default: put_integer(text, node);
+    }
+}
+
+/* Writes the value with these nodes to `out`, which has room for it, and returns the text's length. */
+static inline size_t node_json(scaleview_registry registry, const scaleview_node *nodes, const uint8_t *pool, char *out) {
+    struct node_text text = {registry, pool, out};
+    put_node(&text, nodes);
+    return (size_t)(text.at - out);
+}
+#endif
