@@ -20,21 +20,23 @@ use Rattle.scale_calls.specs.declared.describing.PartRefusal.TheVariants as refu
 abbrev pub type_definition : List TypeInfo → ℕ → Option (Class × TypeDef)
 type_definition r id = option_map (λ x. (class_of r id, x.shape)) (slice_get r id)
 
--- the same, of what is lent
+-- a class and a borrowed definition, as values
 abbrev pub seen_definition : Class × Bor TypeDef → Class × TypeDef
 seen_definition x = (x.0, x.1.now)
 
--- a part: its name, if it has one, and the position of its type
+-- a part as values: its name, if it has one, and the position of its type
 abbrev pub Named : Type 0
 Named = Option (List ℕ) × ℕ
 
--- what a part that is lent says
+-- a borrowed part, as values
 abbrev pub seen : Part → Named
 seen part = (option_copied part.name, part.ty)
 
+-- a field as a part
 abbrev pub field_part : Field → Named
 field_part field = (field.name, field.ty.0)
 
+-- a tuple's member as a part, which has no name
 abbrev pub member_part : TypeId → Named
 member_part member = (None, member.0)
 
@@ -60,11 +62,12 @@ arm_of (definition.Primitive p) i = None
 arm_of (definition.Compact target) i = None
 arm_of (definition.BitSequence store order) i = None
 
+-- `Result::map`
 abbrev pub result_map : {X Y E : Type 0} → (X → Y) → Result X E → Result Y E
 result_map f (Ok x) = Ok (f x)
 result_map f (Err e) = Err e
 
--- what a type has, where there is a type
+-- what `find` finds in the definition of a type, or why there is nothing
 abbrev pub in_type : {X : Type 0} → (TypeDef → Option X) → Option TypeInfo → Result X PartRefusal
 in_type find (Some info) = ok_or (find info.shape) refusal.UnknownPart
 in_type find None = Err refusal.UnknownType
@@ -77,19 +80,20 @@ type_part r id i = in_type (λ d. part_of d i) (slice_get r id)
 abbrev pub type_arm : List TypeInfo → ℕ → ℕ → Result Arm PartRefusal
 type_arm r id i = in_type (λ d. arm_of d i) (slice_get r id)
 
--- the field of an arm
+-- the field at a position of an arm, if there is an arm
 abbrev pub field_in : ℕ → Result Arm PartRefusal → Result Named PartRefusal
 field_in i (Ok arm) = ok_or (option_map field_part (slice_get arm.fields i)) refusal.UnknownPart
 field_in i (Err e) = Err e
 
+-- the field at position `i` of the arm at position `arm` of the type at a position
 abbrev pub arm_field : List TypeInfo → ℕ → ℕ → ℕ → Result Named PartRefusal
 arm_field r id arm i = field_in i (type_arm r id arm)
 
--- the path of the type at a position, its segments joined
+-- the path of the type at a position, its segments joined by `::`
 abbrev pub type_path : List TypeInfo → ℕ → Option (List ℕ)
 type_path r id = option_map (λ x. joined_segments x.path) (slice_get r id)
 
--- the first position, from one on, of a type with the path; or there is none
+-- the first position, at or after `from`, of a type with the path; `None` if there is none
 abbrev pub IsFirstOfPath : List TypeInfo → ℕ → List ℕ → Option ℕ → Type 0
 IsFirstOfPath r from path (Some id) = (from ≤ id) × (type_path r id ≡ Some path)
     × ((j : ℕ) → from ≤ j → j < id → type_path r j ≢ Some path)

@@ -21,12 +21,13 @@ use Rattle.scaleview_c.specs.declared.types.TypeShape.{TypeShape}
 
 -- ---- the numbers of a type
 
+-- the number of a class
 abbrev pub class_number : Class → ℕ
 class_number class.NoValue = 0
 class_number class.Empty = 1
 class_number class.Sized = 2
 
--- the byte of a definition
+-- the number of a definition's kind, which is the byte that the definition begins with
 abbrev pub kind_number : TypeDef → ℕ
 kind_number (definition.Composite fields) = 0
 kind_number (definition.Variant arms) = 1
@@ -49,11 +50,12 @@ plain_shape kind c = record {
   parts = 0;
 }
 
--- the primitive, the element, the order, the length and the parts of a definition
+-- the byte of a primitive type
 abbrev pub primitive_of : TypeDef → ℕ
 primitive_of (definition.Primitive p) = primitive_byte p
 primitive_of _ = 0
 
+-- the type of the elements, a compact's target, or a bit sequence's store
 abbrev pub element_of : TypeDef → ℕ
 element_of (definition.Sequence element) = element.0
 element_of (definition.Array len element) = element.0
@@ -61,14 +63,17 @@ element_of (definition.Compact target) = target.0
 element_of (definition.BitSequence store order) = store.0
 element_of _ = 0
 
+-- the type that names a bit sequence's order
 abbrev pub order_of : TypeDef → ℕ
 order_of (definition.BitSequence store order) = order.0
 order_of _ = 0
 
+-- the number of an array's elements
 abbrev pub length_of : TypeDef → ℕ
 length_of (definition.Array len element) = len
 length_of _ = 0
 
+-- the number of fields, arms or members
 abbrev pub parts_of : TypeDef → ℕ
 parts_of (definition.Composite fields) = length fields
 parts_of (definition.Variant arms) = length arms
@@ -87,7 +92,7 @@ shape_numbers c d = record {
   parts = parts_of d;
 }
 
--- the numbers of the type are reported, or that there is no type, and then they stay
+-- the numbers of the type are reported; or that there is no type, and the numbers are unchanged
 abbrev pub DescribesShape : Option (Class × TypeDef) → TypeShape → TypeShape → Answer → Type 0
 DescribesShape (Some x) old new a = (new ≡ shape_numbers x.0 x.1) × (a ≡ plain 0)
 DescribesShape None old new a = (new ≡ old) × (a ≡ plain 201)
@@ -100,7 +105,7 @@ ReportsShape None id old new a = (new ≡ old) × (a ≡ plain 5)
 
 -- ---- names of parts and arms
 
--- a name of so many bytes, memory with so much room, and two numbers more
+-- the answer of a name of `len` bytes and memory for `room` bytes, with two more numbers
 abbrev pub name_answer : ℕ → ℕ → ℕ → ℕ → Answer
 name_answer len room from at =
     record { code = if nat_le len room then 0 else 2; from = from; at = at; length = len }
@@ -110,6 +115,7 @@ abbrev pub WritesName : List ℕ → ℕ → ℕ → List ℕ → List ℕ → A
 WritesName name from at old new a = IsInFront name old new
     × (a ≡ name_answer (length name) (length old) from at)
 
+-- the code that says why there is no part
 abbrev pub part_code : PartRefusal → ℕ
 part_code refusal.UnknownType = 201
 part_code refusal.UnknownPart = 203
@@ -153,12 +159,12 @@ WritesPath (Some (held.Registry o)) id old new a = Leaves old new (plain 3) a
 WritesPath (Some (held.Session s)) id old new a = Leaves old new (plain 5) a
 WritesPath None id old new a = Leaves old new (plain 5) a
 
--- a position, or that there is none
+-- the answer of a search: a position, or that there is none
 abbrev pub found_answer : Option ℕ → Answer
 found_answer (Some id) = record { code = 0; from = 0; at = id; length = 0 }
 found_answer None = plain 201
 
--- the first type of the path from a position on is reported, or that there is none
+-- the first type with the path, at or after `from`, is reported, or that there is none
 abbrev pub ReportsFirst : Option Resource → ℕ → List ℕ → Answer → Type 0
 ReportsFirst (Some (held.Registry o)) from path a = (found : Option ℕ)
     × IsFirstOfPath o.checked.types from path found × (a ≡ found_answer found)
