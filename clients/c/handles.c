@@ -162,7 +162,8 @@ static void check_counts(void) {
     check("three bytes", scaleview_text_bytes(&session, &answer) == SCALEVIEW_OK && answer.length == 3);
     check("one node", scaleview_nodes(&session, &answer) == SCALEVIEW_OK && answer.length == 1);
     check("the run's text", scaleview_finish(&session, out, sizeof out, &answer) == SCALEVIEW_NO_ROOM && answer.length == 10);
-    check("no node is held", scaleview_nodes(&session, &answer) == SCALEVIEW_OK && answer.length == 0);
+    check("its node is kept", scaleview_nodes(&session, &answer) == SCALEVIEW_OK && answer.length == 1);
+    check("and its bytes", scaleview_text_bytes(&session, &answer) == SCALEVIEW_OK && answer.length == 3);
     scaleview_free(&session);
     scaleview_close(&registry);
 }
