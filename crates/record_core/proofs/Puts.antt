@@ -4,8 +4,6 @@ use Rattle.std.proofs.Common.{take, drop, get_or, refl, sym, ap, ◌∙◌, arit
 use Rattle.std.proofs.Common.{append_assoc, append-nil, slice_range, slice_set}
 use Rattle.std.proofs.lemmas.List.{map-append, length-map, take_more, take_more_set, drop-drop}
 use Rattle.std.proofs.lemmas.List.{drop-set-lt, take-append-drop, take_all, length-take}
-use Rattle.std.proofs.lemmas.Slice.{take-put_mid, drop-put_mid}
-use borrow.Rule.Slice.PartMut.{put_mid}
 use Rattle.grammar_core.specs.Cells.{Cell}
 use Rattle.node_core.specs.Shown.{all_kept, cell_shown, cells_shown, head_shown}
 use Rattle.node_core.specs.Shown.{kept_bytes}
@@ -14,7 +12,7 @@ use Rattle.node_core.specs.declared.node.Content.{Content}
 use Rattle.node_core.specs.declared.node.Content.TheVariants as is
 use Rattle.node_core.specs.declared.node.Node.{Node}
 use Rattle.record_core.specs.Records.{pool_bytes, pool_of, record_of, records_from}
-use Rattle.record_core.specs.Written.{StandsIn}
+use Rattle.record_core.specs.Written.{StandsIn, room_of}
 use Rattle.record_core.specs.declared.record.Record.{Record}
 
 -- the bytes that a node has in the pool are those of the node that is shown
@@ -108,16 +106,16 @@ next_fits bytes ns i d at part h e is =
     omega (arith, pool_upto bytes ns (i + 1), pool_next bytes ns i d h, e, ap length is)
 
 -- one node more is put
-pub put_next : (bytes : List ℕ) (ns : List Node) (old new : List Record) (old_pool pool : List ℕ)
-    (at i : ℕ) (d : Node) (part : List ℕ) (r : Record) →
-    ArePut bytes ns old new old_pool pool at i →
-    i < length ns → i < length new → part ≡ kept_in bytes (get_or ns i d).content →
-    r ≡ record_of at (cell_shown bytes (get_or ns i d)) → at + length part ≤ length pool →
-    ArePut bytes ns old (slice_set new i r) old_pool
-    (put_mid at (at + length part - at) pool part) (at + length part) (i + 1)
-put_next bytes ns old new old_pool pool at i d part r so_far h room is made fits =
-    let n = get_or ns i d in let before = cells_shown bytes (take i ns) in
-    let span : length part ≡ at + length part - at = omega arith in record {
+pub put_next : (bytes : List ℕ) (ns : List Node) (old new : List Record)
+    (old_pool pool more : List ℕ) (at i : ℕ) (d : Node) (part : List ℕ) (r : Record) →
+    ArePut bytes ns old new old_pool pool at i → i < length ns → i < length new →
+    part ≡ kept_in bytes (get_or ns i d).content →
+    r ≡ record_of at (cell_shown bytes (get_or ns i d)) →
+    take (at + length part) more ≡ take at pool ++ part →
+    drop (at + length part) more ≡ drop (at + length part) pool →
+    ArePut bytes ns old (slice_set new i r) old_pool more (at + length part) (i + 1)
+put_next bytes ns old new old_pool pool more at i d part r so_far h room is made placed rest =
+    let n = get_or ns i d in let before = cells_shown bytes (take i ns) in record {
       records = take_more_set new i r room
           ∙ ap (λ (rs : List Record). rs ++ r ∷ []) so_far.records
           ∙ ap (λ (x : Record). records_from 0 before ++ x ∷ [])
@@ -127,15 +125,12 @@ put_next bytes ns old new old_pool pool at i d part r so_far h room is made fits
       records_rest = drop-set-lt (i + 1) new i r (omega arith)
           ∙ sym (drop-drop 1 i new) ∙ ap (drop 1) so_far.records_rest ∙ drop-drop 1 i old;
       at_is = omega (arith, so_far.at_is, ap length is, pool_next bytes ns i d h);
-      pool_is = take-put_mid at (at + length part - at) pool part (at + length part) refl
-          (omega (arith, fits))
+      pool_is = placed
           ∙ ap (λ (xs : List ℕ). xs ++ part) so_far.pool_is
           ∙ ap (λ (xs : List ℕ). pool_of before ++ xs) (is ∙ kept_is bytes n.children n.content)
           ∙ sym (ap pool_of (cells_more bytes ns i d h) ∙ pool_more before (cell_shown bytes n));
-      pool_rest = drop-put_mid at (at + length part - at) pool part (at + length part)
-          (omega arith) (omega (arith, fits)) span
-          ∙ sym (drop-drop (length part) at pool) ∙ ap (drop (length part)) so_far.pool_rest
-          ∙ drop-drop (length part) at old_pool;
+      pool_rest = rest ∙ sym (drop-drop (length part) at pool)
+          ∙ ap (drop (length part)) so_far.pool_rest ∙ drop-drop (length part) at old_pool;
     }
 
 -- when all are put, they stand in front
@@ -193,3 +188,9 @@ all_le bytes (n ∷ ns) =
       all_le bytes ns,
       length-append own (pool_of (cells_shown bytes ns)),
     )
+
+-- so many nodes and bytes take this room
+pub room_is : (bytes : List ℕ) (ns : List Node) (k n : ℕ) → k ≡ length ns →
+    n ≡ length (pool_of (cells_shown bytes ns)) →
+    record { records = k; pool = n } ≡ room_of (cells_shown bytes ns)
+room_is bytes ns k n e f = rw (f, e, length-map ns (cell_shown bytes)) refl
