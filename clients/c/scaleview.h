@@ -4,8 +4,8 @@
  * The library behind these calls is proved: whatever bytes it gets, a call returns what it promises, or a code and a place.
  * The proof covers the library, not its caller, who must keep these rules:
  *
- * - No pointer is NULL, even if a length is 0, except `inside` of a handle. What a call writes to must not overlap anything
- *   else that it is given. No call keeps a pointer to bytes.
+ * - A pointer may be NULL if its length is 0, as may `inside` of a handle; no other is. What a call writes to must not overlap
+ *   anything else that it is given. No call keeps a pointer to bytes.
  * - A handle is null or was set by a call. A null handle, or one of the other kind, is answered by SCALEVIEW_NO_HANDLE. A
  *   copy of a closed or freed handle can't be recognised, and must not be used.
  * - scaleview_types, the calls that describe types, scaleview_decode, scaleview_decode_nodes and scaleview_encode_nodes only
