@@ -1,5 +1,5 @@
 /* What handles do: sessions beside each other, a registry that is lent, wrong kinds, none, every order of freeing, numbers
- * of codes, too little room, too little memory. */
+ * of codes, too little room, too little memory, no memory at all. */
 #include "scaleview.h"
 #include <stdio.h>
 #include <string.h>
@@ -398,6 +398,108 @@ static void check_numbers(void) {
     }
 }
 
+static const uint8_t small_registry[] = {
+    0x14,
+    0x00, 0x00, 0x00, 0x04, 0x00, 0x00,                                                 /* 0: () */
+    0x04, 0x00, 0x00, 0x05, 0x03, 0x00,                                                 /* 1: u8 */
+    0x08, 0x00, 0x00, 0x00, 0x04, 0x00, 0x04, 0x00, 0x00, 0x00,                         /* 2: a composite of 1 */
+    0x0c, 0x00, 0x00, 0x01, 0x04, 0x00, 0x04, 0x00, 0x04, 0x00, 0x00, 0x00, 0x00, 0x00, /* 3: an arm of 1, named "" */
+    0x10, 0x00, 0x00, 0x05, 0x02, 0x00,                                                 /* 4: str */
+};
+
+static bool is_answer(scaleview_answer answer, uint32_t code, uint64_t at, uint64_t length) {
+    return answer.code == code && answer.at == at && answer.length == length;
+}
+
+/* A pointer may be NULL if its length is 0: by the calls that describe types. */
+static void check_null_names(scaleview_registry registry) {
+    scaleview_answer answer;
+    scaleview_type_line(registry, 1, NULL, 0, &answer);
+    check("no room for a line", is_answer(answer, SCALEVIEW_NO_ROOM, 0, 14));
+    scaleview_part(registry, 2, 0, NULL, 0, &answer);
+    check("a part without a name", is_answer(answer, SCALEVIEW_OK, 0, 0) && answer.from == 1);
+    scaleview_arm(registry, 3, 0, NULL, 0, &answer);
+    check("an arm with a name of no bytes", is_answer(answer, SCALEVIEW_OK, 1, 0));
+    scaleview_arm_field(registry, 3, 0, 0, NULL, 0, &answer);
+    check("an arm's field without a name", is_answer(answer, SCALEVIEW_OK, 0, 0) && answer.from == 1);
+    scaleview_path(registry, 2, NULL, 0, &answer);
+    check("no path", is_answer(answer, SCALEVIEW_OK, 0, 0));
+    scaleview_find(registry, 2, NULL, 0, &answer);
+    check("a type without a path", is_answer(answer, SCALEVIEW_OK, 2, 0));
+    scaleview_reason(SCALEVIEW_OK, NULL, 0, &answer);
+    check("no room for a name", is_answer(answer, SCALEVIEW_NO_ROOM, 0, 2));
+    scaleview_reason(UINT32_MAX, NULL, 0, &answer);
+    check("no name", is_answer(answer, SCALEVIEW_OK, 0, 0));
+}
+
+/* By the calls on values at once: the value of no bytes of the type 0, and one of the type 1. */
+static void check_null_values(scaleview_registry registry) {
+    scaleview_answer answer;
+    scaleview_node node, other = {.kind = SCALEVIEW_NODE_UNSIGNED, .type = 1, .low = 7};
+    uint8_t out[8], seven = 7, zero = 0;
+    scaleview_decode(registry, 0, 64, 9, 0, NULL, 0, out, sizeof out, &answer);
+    check("a value of no bytes", is_answer(answer, SCALEVIEW_OK, 0, 4) && !memcmp(out, "null", 4));
+    scaleview_decode(registry, 0, 64, 9, 0, NULL, 0, NULL, 0, &answer);
+    check("and no room for it", is_answer(answer, SCALEVIEW_NO_ROOM, 0, 4));
+    scaleview_decode(registry, 1, 64, 9, 0, NULL, 0, NULL, 0, &answer);
+    check("bytes that lack", is_answer(answer, SCALEVIEW_VALUE_TRUNCATED, 0, 0));
+    scaleview_decode(registry, 1, 64, 9, 0, &seven, 1, NULL, 0, &answer);
+    check("no room for a text", is_answer(answer, SCALEVIEW_NO_ROOM, 0, 1));
+
+    scaleview_decode_nodes(registry, 0, 64, 9, 0, NULL, 0, NULL, 0, NULL, 0, &answer);
+    check("no room for a node", is_answer(answer, SCALEVIEW_NO_ROOM, 0, 1));
+    scaleview_decode_nodes(registry, 0, 64, 9, 0, NULL, 0, &node, 1, NULL, 0, &answer);
+    check("a node without a pool", is_answer(answer, SCALEVIEW_OK, 0, 1) && node.kind == SCALEVIEW_NODE_EMPTY);
+    scaleview_encode_nodes(registry, 0, 64, 0, &node, 1, NULL, 0, NULL, 0, &answer);
+    check("encoded to no bytes", is_answer(answer, SCALEVIEW_OK, 0, 0));
+    scaleview_encode_nodes(registry, 0, 64, 0, NULL, 0, NULL, 0, NULL, 0, &answer);
+    check("no node", is_answer(answer, SCALEVIEW_NODES_UNFINISHED_VALUE, 0, 0));
+    scaleview_encode_nodes(registry, 1, 64, 0, &other, 1, NULL, 0, NULL, 0, &answer);
+    check("no room for a byte", is_answer(answer, SCALEVIEW_NO_ROOM, 0, 1));
+
+    scaleview_decode_nodes(registry, 4, 64, 9, 0, &zero, 1, &node, 1, NULL, 0, &answer);
+    check("a text of no bytes", is_answer(answer, SCALEVIEW_OK, 0, 1) && node.kind == SCALEVIEW_NODE_TEXT);
+    scaleview_encode_nodes(registry, 4, 64, 0, &node, 1, NULL, 0, out, sizeof out, &answer);
+    check("encoded without a pool", is_answer(answer, SCALEVIEW_OK, 0, 1) && out[0] == 0);
+}
+
+/* By the calls on a session of this type, whose value is the one byte 7, or none. */
+static void check_null_session(scaleview_registry registry, uint32_t type, size_t length) {
+    scaleview_session session = {NULL};
+    scaleview_answer answer;
+    scaleview_node node;
+    uint8_t seven = 7;
+    check("started", scaleview_start(registry, type, 64, 9, 0, &session, &answer) == SCALEVIEW_OK);
+    scaleview_feed(&session, NULL, 0, &answer);
+    check("fed nothing", is_answer(answer, length ? SCALEVIEW_MORE : SCALEVIEW_OK, 0, 0));
+    scaleview_feed(&session, length ? &seven : NULL, length, &answer);
+    check("fed", is_answer(answer, SCALEVIEW_OK, 0, length));
+    scaleview_feed(&session, NULL, 0, &answer);
+    check("fed nothing more", is_answer(answer, SCALEVIEW_OK, 0, 0));
+    scaleview_finish(&session, NULL, 0, &answer);
+    check("no room for the text", is_answer(answer, SCALEVIEW_NO_ROOM, 0, length ? 1 : 4));
+    scaleview_finish_nodes(&session, NULL, 0, NULL, 0, &answer);
+    check("no room for its node", is_answer(answer, SCALEVIEW_NO_ROOM, 0, 1));
+    scaleview_finish_nodes(&session, &node, 1, NULL, 0, &answer);
+    check("its node", is_answer(answer, SCALEVIEW_OK, 0, 1) && node.type == type);
+    check("freed", scaleview_free(&session) == SCALEVIEW_OK);
+}
+
+static void check_null(void) {
+    scaleview_registry registry = {NULL};
+    scaleview_answer answer;
+    for (int metadata = 0; metadata < 2; metadata++) {
+        scaleview_open(NULL, 0, metadata, &registry, &answer);
+        check("no registry", is_answer(answer, SCALEVIEW_REGISTRY_TRUNCATED, 0, 0) && !registry.inside);
+    }
+    check("opened", scaleview_open(small_registry, sizeof small_registry, false, &registry, &answer) == SCALEVIEW_OK);
+    check_null_names(registry);
+    check_null_values(registry);
+    check_null_session(registry, 0, 0);
+    check_null_session(registry, 1, 1);
+    check("closed", scaleview_close(&registry) == SCALEVIEW_OK);
+}
+
 int main(void) {
     check_lending();
     check_kinds();
@@ -411,5 +513,6 @@ int main(void) {
     check_later_pieces();
     check_orders();
     check_numbers();
+    check_null();
     return failures > 0;
 }

@@ -4,8 +4,8 @@
  * The library behind these calls is proved: whatever bytes it gets, a call returns what it promises, or a code and a place.
  * The proof covers the library, not its caller, who must keep these rules:
  *
- * - No pointer is NULL, even if a length is 0, except `inside` of a handle. What a call writes to must not overlap anything
- *   else that it is given. No call keeps a pointer to bytes.
+ * - A pointer may be NULL if its length is 0, as may `inside` of a handle; no other is. What a call writes to must not overlap
+ *   anything else that it is given. No call keeps a pointer to bytes.
  * - A handle is null or was set by a call. A null handle, or one of the other kind, is answered by SCALEVIEW_NO_HANDLE. A
  *   copy of a closed or freed handle can't be recognised, and must not be used.
  * - scaleview_types, the calls that describe types, scaleview_decode, scaleview_decode_nodes and scaleview_encode_nodes only
@@ -14,6 +14,11 @@
  *   sessions while it runs.
  *
  * Places and lengths are in bytes.
+ *
+ * Stack: scaleview_decode and scaleview_finish use stack for each level of a value while they write its JSON. Give them a
+ * thread of 128 KiB for values of depth 64, and one of 1 MiB for depth 1024. They need 36 KiB and 472 KiB, as measured on
+ * x86-64 with glibc, or 24 KiB and 248 KiB if no type has fields whose names are out of order. No other call needs more than
+ * 16 KiB, at any depth.
  */
 #ifndef SCALEVIEW_H
 #define SCALEVIEW_H
