@@ -1,4 +1,7 @@
-"""Runs both programs on values of 1 MB and on small ones, and prints the ratios."""
+"""Runs both programs on values of 1 MB and on small ones, and prints the ratios.
+
+usage: compare.py PROGRAM BY_LIBRARY FOLDER ACCOUNT
+"""
 
 import os
 import pathlib
@@ -32,21 +35,51 @@ def times(sides, count):
     return busy - idle, other_busy - other_idle
 
 
-# The library in its mode over the crates' calls in theirs.
-def ratio(mode, other_mode, registry, type_id, value, counted, timed):
+# The first side over the other, each a program and its mode.
+def ratio(side, other_side, registry, type_id, value, counted, timed):
     words = [str(registry), str(type_id), str(value)]
-    sides = [[by_library, mode, *words], [program, other_mode, *words]]
+    sides = [[*side, *words], [*other_side, *words]]
     counts = [instructions([*side, str(counted)]) - instructions([*side, "0"]) for side in sides]
     ours, theirs = times(sides, timed)
     return f"{counts[0] / counts[1]:.2f} | {ours / theirs:.2f}"
 
 
-print("| value of 1 MB | instructions | time |")
-print("|---|---|---|")
-for line in pathlib.Path(folder, "list").read_text().splitlines():
-    name, type_id, file, _, label = line.split(maxsplit=4)
-    rates = ratio("text", "text", f"{folder}/{name}.registry", type_id, f"{folder}/{file}", 1, 40)
-    print(f"| {label} | {rates} |", flush=True)
+# A number from 2^6 on.
+def compact(number):
+    return (number << 2 | 1).to_bytes(2, "little") if number < 1 << 14 else (number << 2 | 2).to_bytes(4, "little")
+
+
+# Writes sequences of 1 MB that repeat the example's events and its account, and returns what `listed` does.
+def repeated():
+    types = pathlib.Path(account, "registry.scale").read_bytes()
+    assert types[0] == 13 << 2
+    registry = pathlib.Path(folder, "account.registry")
+    # A fourteenth type is a sequence of accounts.
+    registry.write_bytes(bytes([14 << 2]) + types[1:] + bytes([13 << 2, 0, 0, 2, 4 << 2, 0]))
+    events, one = (pathlib.Path(account, f"{name}.scale").read_bytes() for name in ("events", "account"))
+    for name, type_id, count, elements in ("events", 12, events[0] >> 2, events[1:]), ("accounts", 13, 1, one):
+        copies = (1 << 20) // len(elements)
+        value = pathlib.Path(folder, f"{name}.value")
+        value.write_bytes(compact(copies * count) + copies * elements)
+        yield f"sequence of {name}", registry, type_id, value
+
+
+# The values of 1 MB: label, registry, position of the type, and file.
+def listed():
+    for line in pathlib.Path(folder, "list").read_text().splitlines():
+        name, type_id, file, _, label = line.split(maxsplit=4)
+        yield label, f"{folder}/{name}.registry", type_id, f"{folder}/{file}"
+
+
+# The library's text over the crates', and its other calls over its decoder alone.
+decoder = [by_library, "decoder"]
+sides = [([by_library, "text"], [program, "text"]), ([by_library, "nodes"], decoder), ([by_library, "encode"], decoder)]
+print("| value of 1 MB | text over text: instructions | time | nodes over the decoder alone: instructions | time "
+      "| encode over the decoder alone: instructions | time |")
+print("|---|---|---|---|---|---|---|")
+for label, *words in [*listed(), *repeated()]:
+    rates = [ratio(*pair, *words, 1, 40) for pair in sides]
+    print(f"| {label} | {' | '.join(rates)} |", flush=True)
 
 print()
 print("| 10,000 small values | bytes each | a session: instructions | time | with its text: instructions | time | text over text: instructions | time |")
@@ -55,5 +88,5 @@ for name, type_id in ("height", 6), ("deposit", 8), ("memo", 5), ("account", 4),
     value = pathlib.Path(account, f"{name}.scale")
     words = [f"{account}/registry.scale", type_id, value, 10000, 100000]
     modes = ("decoder", "decoder"), ("text", "decoder"), ("text", "text")
-    rates = [ratio(*pair, *words) for pair in modes]
+    rates = [ratio([by_library, mode], [program, other], *words) for mode, other in modes]
     print(f"| {name} | {value.stat().st_size} | {' | '.join(rates)} |", flush=True)
