@@ -18,8 +18,8 @@ use Rattle.record_core.specs.declared.replaying.RecordFault.{RecordFault}
 use Rattle.record_core.specs.declared.replaying.RecordFault.TheVariants as records
 use Rattle.scaleview_c.specs.declared.codes.Answer.{Answer}
 
--- the number of a reason: from 101 for a registry's bytes, from 301 for a value's, and 3 for want
--- of memory
+-- the number of a reason: from 101 for a registry's bytes, from 301 for a value's, and 3 for an
+-- allocation failure
 abbrev pub registry_code : RegistryReason → ℕ
 registry_code registry.Truncated = 101
 registry_code registry.BadUtf8 = 102
