@@ -68,6 +68,9 @@ static int run(size_t registry_length, uint32_t type, size_t length, long reques
     code = scaleview_type_line(registry, type, out, sizeof out, &answer);
     check("a line", is_answer(code), request);
     wants += code == SCALEVIEW_MEMORY;
+    code = scaleview_path(registry, type, out, sizeof out, &answer);
+    check("a path", is_answer(code), request);
+    wants += code == SCALEVIEW_MEMORY;
     code = scaleview_decode(registry, type, 64, 1 << 24, 0, bytes[1], length, out, sizeof out, &answer);
     check("a value", is_answer(code), request);
     wants += code == SCALEVIEW_MEMORY;
