@@ -1,7 +1,8 @@
 -- What the methods of the allocator with a budget share: the `&` to it, the places of its two
--- fields after that, and the two functions over the count of what is left, at a call. Assumes
--- `Logic`.
-use Rattle.std.proofs.Common.{◌≡◌, ℕ, ◌+◌, ◌^◌, ◌<◌, Bool, List, [], ◌∷◌, refl, ap, w64}
+-- fields after that, and at a call the two functions over the count of what is left, and the one
+-- that counts how many bytes more a larger block takes. Assumes `Logic`.
+use Rattle.std.proofs.Common.{◌≡◌, ℕ, ◌+◌, ◌-◌, ◌*◌, ◌^◌, ◌<◌, min, Bool, List, [], ◌∷◌, refl}
+use Rattle.std.proofs.Common.{ap, w64}
 use seplogic.Ra.Ura.{Ura}
 use mir.Syntax.{Args, a_type, dnil, dcons}
 use mir.Val.{Val, vbool, vint, vptr, vunit}
@@ -13,8 +14,9 @@ use types.Logic.{Logic, sem}
 use contract.BorrowLft.{◌⊑◌}
 use contract.Monad.{Fun, fact, fact_i}
 use types.Kit.{‵, raw, ◌⊛◌, some, later, ◌$◌, ◌∵◌, !, qed, move, keep, use0, use1, split, join}
-use types.Kit.{pick, fjoin, feq_i, feq_l, flt_i, check, show, await, updating, now as at_once, done}
-use denote.Builtin.{u64, bool, unit, RefOf}
+use types.Kit.{drop, pick, fsplit, fjoin, feq_i, feq_l, flt_i, flt_l, check, show, await}
+use types.Kit.{updating, now as at_once, done}
+use denote.Builtin.{u64, usize, bool, unit, RefOf}
 use denote.Memory.{hidden_shr}
 use denote.Param.{bounded, param}
 use denote.RattleType.{RattleType}
@@ -28,6 +30,7 @@ use Rattle.std.proofs.alloc.Calls.{Al, α}
 use Rattle.budget_core.specs.contracts.budget.Budget as budget
 use Rattle.budget_core.specs.contracts.budget.take as takes
 use Rattle.budget_core.specs.contracts.budget.give_back as returns
+use Rattle.budget_core.specs.contracts.budget.growth as grows
 
 module _ (Z : Al) where
   abbrev pub Whole : RattleType
@@ -139,3 +142,52 @@ module _ (Z : Al) {M : Type 1} {𝓤 : Ura M} (𝓛 : Logic 𝓤) (at_mem : Memo
         (id⊢ 𝓤 _) $
         await ! tt $ pick ! (λ is_it. split ! $ split ! $ move ! (1 ∷ []) $ feq_l !
         (λ e. at_once ! $ show ! (Told v) is_it $ check ! (ap only e) $ keep ! (0 ∷ []) $ done !))
+
+module _ {M : Type 1} {𝓤 : Ura M} (𝓛 : Logic 𝓤) (at_mem : Memory → SProp 𝓤)
+    (run : Routine → Fun 𝓤) where
+  open 𝓛 use {H}
+
+  abbrev pub Grown : Contract 𝓤
+  Grown = triple_of 𝓛 grows.signature (grows.spec 𝓛 at_mem run)
+
+  module _ (old new each : ℕ) where
+    abbrev pub at_grown : Grown.Ghost
+    at_grown = (
+      (
+        tt,
+        tt,
+        tt,
+        (old, (new, (each, tt))),
+        (vint w64 old ∷ [], (vint w64 new ∷ [], (vint w64 each ∷ [], tt))),
+      ),
+      tt,
+    )
+
+    -- a call that counts the bytes of a growth asks for nothing but numbers that are words
+    pub grown_goes : old < 2 ^ 64 → new < 2 ^ 64 → each < 2 ^ 64 →
+        ent 𝓤 (emp 𝓤) (Grown.pre at_grown)
+    grown_goes few more small =
+        qed 𝓛 [] ∵
+        nothing ! $ nothing ! $ flt_i ! each (2 ^ 64) small $
+        feq_i ! (List Val) (vint w64 each ∷ []) (vint w64 each ∷ []) refl $ fjoin ! $ fjoin ! $
+        flt_i ! new (2 ^ 64) more $
+        feq_i ! (List Val) (vint w64 new ∷ []) (vint w64 new ∷ []) refl $ fjoin ! $ fjoin ! $
+        flt_i ! old (2 ^ 64) few $
+        feq_i ! (List Val) (vint w64 old ∷ []) (vint w64 old ∷ []) refl $ fjoin ! $ fjoin ! $
+        nothing ! $ join ! $ join ! $ done !
+
+    abbrev pub Counted : Val → ℕ → SProp 𝓤
+    Counted v bytes = guard 𝓤 ((v ≡ vint w64 bytes) × (bytes < 2 ^ 64)) (emp 𝓤)
+
+    -- and answers a word
+    pub grown_gives : (v : Val) → ent 𝓤 (Grown.post at_grown v) (H.⇛ (ex 𝓤 (Counted v)))
+    grown_gives v =
+        qed 𝓛 (raw (Grown.post at_grown v) ∷ []) ∵ updating ! $
+        use1 𝓛 (later (some (λ (bytes : ℕ). (‵ ftrue ⊛ ‵ (usize.own_val bytes (v ∷ []))) ⊛ some
+        (λ (ws : Unit {0} × (Unit {0} × (Unit {0} × Unit {0}))). ‵
+        (fsep ftrue (fsep ftrue (fsep ftrue ftrue))) ⊛
+        raw (fact 𝓤 (bytes ≡ min ((new - old) * each) (2 ^ 64 - 1)))))))
+        (id⊢ 𝓤 _) $
+        await ! tt $ pick ! (λ bytes. split ! $ split ! $ drop ! $ fsplit ! $ feq_l !
+        (λ e. flt_l ! (λ fits. at_once ! $ show ! (Counted v) bytes $ check ! (ap only e, fits) $
+        keep ! [] $ done !)))

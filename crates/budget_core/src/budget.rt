@@ -1,9 +1,10 @@
 //! A budget of bytes over another allocator.
 
-ghost use Rattle.std.specs.Prelude.{IfOk, ◌≡◌, ◌+◌, ◌^◌, ◌-◌, ◌<◌, MatchOption, min};
+ghost use Rattle.std.specs.Prelude.{IfOk, ◌≡◌, ◌+◌, ◌*◌, ◌^◌, ◌-◌, ◌<◌, MatchOption, min};
 
 use std::alloc::{AllocError, Allocator};
 use std::cell::Cell;
+use std::mem::size_of;
 use std::rc::Rc;
 
 /// An allocator that hands out no more than a number of bytes at once.
@@ -11,7 +12,9 @@ use std::rc::Rc;
 /// It passes requests on to another allocator, and refuses those for more bytes than are left. A
 /// block that is freed gives its bytes back. All clones of a budget share what is left of it.
 ///
-/// A collection that grows takes its new block before it frees the old one, so both count then.
+/// A vector whose block grows takes only the bytes that are added, even while the other allocator
+/// moves the block. What moves its values to a new block by itself, as a vector that shrinks or a
+/// deque that grows, takes that block before it frees the old one, so both count then.
 pub struct Budget<B: Allocator> {
     inner: B,
     left: Rc<Cell<u64>, B>,
@@ -72,6 +75,14 @@ fn after_return(left: u64, size: u64) -> u64
     left.saturating_add(size)
 }
 
+/// Returns how many bytes a block grows by from `old_cap` to `new_cap` values of `size` bytes each.
+/// A count above 2^64 - 1 is 2^64 - 1.
+fn growth(old_cap: usize, new_cap: usize, size: usize) -> usize
+    ensures { result ≡ min ((new_cap - old_cap) * size) (2 ^ 64 - 1) }
+{
+    new_cap.saturating_sub(old_cap).saturating_mul(size)
+}
+
 /// Takes `size` bytes from those that are left. Returns `false`, and takes none, if fewer are left.
 fn take<B: Allocator>(left: &Rc<Cell<u64>, B>, size: usize) -> bool {
     match after_taking(left.get(), size as u64) {
@@ -107,5 +118,25 @@ unsafe impl<B: Allocator> Allocator for Budget<B> {
     unsafe fn deallocate(&self, ptr: *mut u8, size: usize, align: usize) {
         give_back(&self.left, size);
         self.inner.deallocate(ptr, size, align);
+    }
+
+    unsafe fn grow<T>(
+        &self,
+        ptr: *mut T,
+        len: usize,
+        old_cap: usize,
+        new_cap: usize,
+    ) -> Result<*mut T, AllocError> {
+        let more = growth(old_cap, new_cap, size_of::<T>());
+        if !take(&self.left, more) {
+            return Err(AllocError);
+        }
+        match self.inner.grow(ptr, len, old_cap, new_cap) {
+            Ok(block) => Ok(block),
+            Err(_) => {
+                give_back(&self.left, more);
+                Err(AllocError)
+            }
+        }
     }
 }

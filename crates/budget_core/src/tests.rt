@@ -13,6 +13,18 @@ fn block<A: Allocator + Clone>(
     Vec::with_capacity(budget.clone()?, bytes)
 }
 
+/// Returns a list of the numbers below `len`, in a block of exactly that many.
+fn numbers<A: Allocator + Clone>(
+    budget: &Budget<A>,
+    len: u64,
+) -> Result<Vec<u64, Budget<A>>, AllocError> {
+    let mut list = Vec::with_capacity(budget.clone()?, len as usize)?;
+    'numbers: for number in 0..len {
+        list.push(number)?;
+    }
+    Ok(list)
+}
+
 /// Stops the test unless the budget serves a block of this many bytes exactly if `wanted` says so.
 /// The block is freed at once.
 fn serves<A: Allocator + Clone>(rt: &impl Abort, budget: &Budget<A>, bytes: usize, wanted: bool) {
@@ -68,6 +80,56 @@ fn takes_no_bytes_where_the_other_allocator_refuses(rt: HostRuntime) -> Result<(
     serves(&rt, &budget, 9_000, false);
     serves(&rt, &budget, 9_000, false);
     serves(&rt, &budget, 2_000, true);
+    Ok(())
+}
+
+#[test]
+fn growth_takes_only_the_bytes_that_are_added(rt: HostRuntime) -> Result<(), Fail> {
+    let budget = Budget::new(rt.alloc(), 80)?;
+    let mut list = numbers(&budget, 4)?;
+    serves(&rt, &budget, 49, false);
+    serves(&rt, &budget, 48, true);
+    list.push(4)?;
+    assert_eq!(rt; list.capacity(), 8);
+    assert_eq!(rt; list.as_slice(), [0, 1, 2, 3, 4].as_slice());
+    serves(&rt, &budget, 17, false);
+    serves(&rt, &budget, 16, true);
+    drop(list);
+    serves(&rt, &budget, 81, false);
+    serves(&rt, &budget, 80, true);
+    Ok(())
+}
+
+#[test]
+fn refused_growth_leaves_the_block_and_the_count(rt: HostRuntime) -> Result<(), Fail> {
+    let budget = Budget::new(rt.alloc(), 63)?;
+    let mut list = numbers(&budget, 4)?;
+    assert!(rt; list.push(4).is_err());
+    assert_eq!(rt; list.capacity(), 4);
+    assert_eq!(rt; list.as_slice(), [0, 1, 2, 3].as_slice());
+    serves(&rt, &budget, 32, false);
+    serves(&rt, &budget, 31, true);
+    drop(list);
+    serves(&rt, &budget, 63, true);
+    Ok(())
+}
+
+#[test]
+fn takes_no_bytes_where_the_other_allocator_refuses_to_grow(rt: HostRuntime) -> Result<(), Fail> {
+    let narrower = Budget::new(rt.alloc(), 600)?;
+    let budget = Budget::new(narrower.clone()?, 200)?;
+    let held = block(&narrower, 500)?;
+    let mut list = numbers(&budget, 8)?;
+    assert!(rt; list.push(8).is_err());
+    assert_eq!(rt; list.as_slice(), [0, 1, 2, 3, 4, 5, 6, 7].as_slice());
+    drop(held);
+    serves(&rt, &budget, 137, false);
+    serves(&rt, &budget, 136, true);
+    list.push(8)?;
+    serves(&rt, &budget, 73, false);
+    serves(&rt, &budget, 72, true);
+    drop(list);
+    serves(&rt, &budget, 200, true);
     Ok(())
 }
 
