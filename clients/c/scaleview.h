@@ -262,7 +262,7 @@ uint32_t scaleview_find(scaleview_registry registry, uint32_t from, const uint8_
  * of `answer->length` bytes, without a terminating 0. The value has at most `limit` bytes, up to 2^40, and no part of it is
  * deeper than `depth`, up to 1024; the value itself has depth 0.
  *
- * `memory` is the most bytes that the library allocates at once for the value and its text; 0 stands for no budget. If more
+ * `memory` is the most bytes that the library may hold at once for the value and its text; 0 stands for no budget. If more
  * are needed, the call returns SCALEVIEW_MEMORY. What counts:
  *
  * - the value: a list of its nodes, 24 bytes each; one of its open levels, 24 bytes each; and one of the bytes of its
@@ -272,10 +272,10 @@ uint32_t scaleview_find(scaleview_registry registry, uint32_t from, const uint8_
  *   quarter more. The longest text with an escape is held once more. A value that is one byte run, or one text without an
  *   escape, takes no memory here.
  *
- * A list or text that grows holds its old memory until it is copied, so that both count then. What doesn't count: the
- * registry; a fixed number of bytes for each call and session; and, while the text is written, the order of keys of each
- * composite and variant, and 40 bytes for each field of an open object with more than eight fields whose names are out of
- * order.
+ * Where `realloc` moves a list or text that grows, the heap has the old memory too until it is copied; that doesn't count. Nor
+ * do the registry; a fixed number of bytes for each call and session; and, while the text is written, the order of keys of
+ * each composite and variant, and 40 bytes for each field of an open object with more than eight fields whose names are out
+ * of order.
  *
  * Otherwise it returns SCALEVIEW_NO_ROOM, SCALEVIEW_UNKNOWN_TYPE, SCALEVIEW_LIMIT_OUT_OF_RANGE, SCALEVIEW_MEMORY,
  * SCALEVIEW_NO_HANDLE or a code of SCALEVIEW_VALUE_*, and `out` is unchanged. After SCALEVIEW_NO_ROOM a call with more room
