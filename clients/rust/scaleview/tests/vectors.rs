@@ -1,11 +1,12 @@
-//! The tables of test vectors: each registry's answer and type lines, and each value whole and in pieces.
+//! The tables of test vectors: each registry's answer and types, and each value whole and in pieces, as JSON and as nodes,
+//! and back from them.
 
-use scaleview::{Error, Limits, Progress, Registry};
+use scaleview::{Error, Limits, Progress, Registry, Value};
 use std::collections::HashMap;
 use std::path::PathBuf;
 
 fn table(name: &str) -> String {
-    let path = PathBuf::from(env!("CARGO_MANIFEST_DIR")).join("../../crates/vectors/data").join(name);
+    let path = PathBuf::from(env!("CARGO_MANIFEST_DIR")).join("../../../crates/vectors/data").join(name);
     std::fs::read_to_string(path).expect("a table of vectors")
 }
 
@@ -19,11 +20,11 @@ fn bytes_of(column: &str) -> Vec<u8> {
     (0..digits.len()).step_by(2).map(|at| u8::from_str_radix(&digits[at..at + 2], 16).expect("two digits")).collect()
 }
 
-/// The refusal in the words of the tables.
+/// The error in the words of the tables.
 fn told(error: Error) -> String {
     match error {
-        Error::Registry { reason, at } => format!("{reason} at {at}"),
-        Error::Value { reason, at } => format!("{reason} at {at}"),
+        Error::Registry { reason, place } => format!("{reason} at {place}"),
+        Error::Value { reason, place } => format!("{reason} at {place}"),
         Error::UnknownReference { from, to } => format!("UnknownType {to} in type {from}"),
         Error::UnknownType { .. } => "UnknownType".to_string(),
         Error::LimitOutOfRange => "LimitOutOfRange".to_string(),
@@ -31,7 +32,7 @@ fn told(error: Error) -> String {
     }
 }
 
-/// What is to be answered to all bytes of a registry's row: the first refusal, or its type lines.
+/// What is to be answered to all bytes of a registry's row: the first error, or its type lines.
 fn wanted_of(row: &[&str], len: usize) -> String {
     let [_, prefix, _, read, check, lines] = row else { panic!("six columns") };
     let end = read.split(' ').next().and_then(|end| end.parse::<usize>().ok());
@@ -44,23 +45,47 @@ fn wanted_of(row: &[&str], len: usize) -> String {
 }
 
 fn lines_of(registry: &Registry) -> String {
-    let lines = (0..registry.len()).map(|id| registry.type_line(id).expect("a type"));
+    let lines = registry.types().map(|one| registry.type_line(one.id()).expect("a type"));
     let joined = lines.map(|line| line.trim_end().to_string()).collect::<Vec<_>>().join(" / ");
     if joined.is_empty() { "-".to_string() } else { joined }
 }
 
-#[test]
-fn registries_are_answered() {
-    for row in rows(&table("registries.tsv")) {
-        let bytes = bytes_of(row[2]);
-        let opened = if row[1] == "metadata" { Registry::open_metadata(&bytes) } else { Registry::open(&bytes) };
-        let found = opened.map_or_else(told, |registry| lines_of(&registry));
-        assert_eq!(found, wanted_of(&row, bytes.len()), "{}", row[0]);
+/// Each type's line has its class, kind and path, and its path finds it.
+fn check_types(registry: &Registry) {
+    assert_eq!(registry.types().len(), registry.len() as usize);
+    for (id, one) in (0..).zip(registry.types()) {
+        assert_eq!((one.id(), registry.find_from(id, one.path().unwrap())), (id, Some(id)));
+        let line = registry.type_line(id).unwrap();
+        let kind = one.primitive().map_or(format!("{:?}", one.kind()), |primitive| format!("{primitive:?}"));
+        let wanted = format!("{id} {:?} {} ", one.class(), kind.to_lowercase());
+        assert!(line.starts_with(&wanted), "{line} {wanted}");
     }
 }
 
+#[test]
+fn registries_are_answered() {
+    let mut count = 0;
+    for row in rows(&table("registries.tsv")) {
+        let bytes = bytes_of(row[2]);
+        let metadata = row[1] == "metadata";
+        let opened = if metadata { Registry::open_metadata(&bytes) } else { Registry::open_raw(&bytes) };
+        if let Ok(registry) = &opened {
+            check_types(registry);
+        }
+        let found = opened.map_or_else(told, |registry| lines_of(&registry));
+        assert_eq!(found, wanted_of(&row, bytes.len()), "{}", row[0]);
+        // The first four bytes say which of both it is, unless they are cut.
+        if metadata == bytes.starts_with(b"meta") {
+            let guessed = Registry::open(&bytes).map_or_else(told, |registry| lines_of(&registry));
+            assert_eq!(guessed, found, "{}", row[0]);
+        }
+        count += 1;
+    }
+    assert!(count > 500);
+}
+
 /// A value's row.
-struct Value<'a> {
+struct Row<'a> {
     name: &'a str,
     id: u32,
     limits: Limits,
@@ -71,13 +96,13 @@ struct Value<'a> {
     json: &'a str,
 }
 
-impl<'a> Value<'a> {
-    fn of(row: &[&'a str]) -> Value<'a> {
+impl<'a> Row<'a> {
+    fn of(row: &[&'a str]) -> Row<'a> {
         let number = |column: usize| row[column].parse::<u64>().expect("a number");
-        Value {
+        Row {
             name: row[0],
             id: number(2) as u32,
-            limits: Limits { depth: number(3) as u16, bytes: number(4) },
+            limits: Limits::new().depth(number(3) as u16).bytes(number(4)),
             bytes: bytes_of(row[5]),
             answer: row[6],
             held: (number(7), number(8), number(9)),
@@ -85,12 +110,12 @@ impl<'a> Value<'a> {
         }
     }
 
-    /// What a session of the bytes ends with: the value's JSON, or the refusal.
+    /// What a session of the bytes ends with: the value's JSON, or the error.
     fn end(&self) -> String {
         match self.answer {
             "Done" => self.json.to_string(),
             "More" => format!("Truncated at {}", self.bytes.len()),
-            refusal => refusal.to_string(),
+            error => error.to_string(),
         }
     }
 
@@ -102,6 +127,13 @@ impl<'a> Value<'a> {
         } else {
             self.end()
         }
+    }
+
+    /// A value is encoded as its bytes, which are decoded as the same value.
+    fn check_back(&self, registry: &Registry, value: &Value) {
+        let limits = self.limits;
+        assert_eq!(registry.encode_within(self.id, value, limits).as_ref(), Ok(&self.bytes), "{}", self.name);
+        assert_eq!(registry.decode_within(self.id, &self.bytes, limits).as_ref(), Ok(value), "{}", self.name);
     }
 
     fn check_pieces(&self, registry: &Registry, step: usize) {
@@ -117,7 +149,9 @@ impl<'a> Value<'a> {
         }
         let held = (session.taken(), session.nodes(), session.text_bytes());
         assert_eq!(held, self.held, "{} in pieces of {step}", self.name);
-        let found = session.finish().unwrap_or_else(told);
+        let found = session.finish().map_or_else(told, |value| value.to_string());
+        assert_eq!(found, self.end(), "{} in pieces of {step}", self.name);
+        let found = session.finish_json().unwrap_or_else(told);
         assert_eq!(found, self.end(), "{} in pieces of {step}", self.name);
     }
 }
@@ -126,13 +160,23 @@ impl<'a> Value<'a> {
 fn values_are_answered() {
     let (registries, values) = (table("registries.tsv"), table("values.tsv"));
     let by_name: HashMap<&str, Vec<u8>> = rows(&registries).map(|row| (row[0], bytes_of(row[2]))).collect();
+    let mut count = 0;
     for row in rows(&values) {
-        let value = Value::of(&row);
-        let registry = Registry::open(&by_name[row[1]]).expect("a registry");
-        let found = registry.decode_within(value.id, value.limits, &value.bytes).unwrap_or_else(told);
-        assert_eq!(found, value.whole(), "{}", value.name);
-        for step in [1, 7, 4096] {
-            value.check_pieces(&registry, step);
+        let registry = Registry::open_raw(&by_name[row[1]]).expect("a registry");
+        let row = Row::of(&row);
+        let found = registry.decode_json_within(row.id, &row.bytes, row.limits).unwrap_or_else(told);
+        assert_eq!(found, row.whole(), "{}", row.name);
+        match registry.decode_within(row.id, &row.bytes, row.limits) {
+            Ok(value) => {
+                assert_eq!(value.to_string(), row.whole(), "{}", row.name);
+                row.check_back(&registry, &value);
+            }
+            Err(error) => assert_eq!(told(error), row.whole(), "{}", row.name),
         }
+        for step in [1, 7, 4096] {
+            row.check_pieces(&registry, step);
+        }
+        count += 1;
     }
+    assert!(count > 1500);
 }
