@@ -1,16 +1,20 @@
-//! Raw declarations of the calls of libscaleview, as `clients/c/scaleview.h` describes them. The header is the contract:
-//! it says what each call does, returns and wants. The crate `scaleview` has the same in safe Rust.
+//! Raw declarations of the calls of libscaleview, as `clients/c/scaleview.h` describes them. The
+//! header is the contract: it says what each call does, returns and wants. The crate `scaleview`
+//! has the same in safe Rust.
 //!
-//! The rules that every caller keeps, of pointers, handles, threads and the stack, stand at the head of the header:
+//! The rules that every caller keeps, of pointers, handles, threads and the stack, stand at the
+//! head of the header:
 //!
-//! - A pointer may be null if its length is 0, as may `inside` of a handle; no other is. What a call writes to must not
-//!   overlap anything else that it is given. No call keeps a pointer to bytes.
+//! - A pointer may be null if its length is 0, as may `inside` of a handle; no other is. What a
+//!   call writes to must not overlap anything else that it is given. No call keeps a pointer to
+//!   bytes.
 //! - A handle is null or was set by a call. A copy of a closed or freed handle must not be used.
-//! - [`scaleview_types`], the calls that describe types, [`scaleview_decode`], [`scaleview_decode_nodes`] and
-//!   [`scaleview_encode_nodes`] only read a registry: any number of threads may make them on one registry at the same
-//!   time. Every other call must be the only one on its registry and the sessions of that registry while it runs.
-//! - [`scaleview_decode`] and [`scaleview_finish`] need a thread of 128 KiB for values of depth 64, and one of 1 MiB for
-//!   depth 1024. No other call needs more than 16 KiB.
+//! - [`scaleview_types`], the calls that describe types, [`scaleview_decode`],
+//!   [`scaleview_decode_nodes`] and [`scaleview_encode_nodes`] only read a registry: any number of
+//!   threads may make them on one registry at the same time. Every other call must be the only one
+//!   on its registry and the sessions of that registry while it runs.
+//! - [`scaleview_decode`] and [`scaleview_finish`] need a thread of 128 KiB for values of depth 64,
+//!   and one of 1 MiB for depth 1024. No other call needs more than 16 KiB.
 
 #![no_std]
 #![deny(missing_docs)]
@@ -19,7 +23,8 @@
 use core::ffi::c_void;
 use core::mem::{align_of, offset_of, size_of};
 
-/// The version of this header: 10000 times the major number, 100 times the minor one, and the patch number.
+/// The version of this header: 10000 times the major number, 100 times the minor one, and the patch
+/// number.
 pub const SCALEVIEW_VERSION: u32 = 100;
 
 /// The call succeeded.
@@ -100,9 +105,11 @@ pub const SCALEVIEW_NODES_NO_FINITE_VALUE: u32 = 402;
 pub const SCALEVIEW_NODES_BIT_SEQUENCE: u32 = 403;
 /// A node is rejected: its type is a compact that wraps no unsigned integer.
 pub const SCALEVIEW_NODES_BAD_COMPACT: u32 = 404;
-/// A node is rejected: it is of another kind than its type, of no kind, or follows a complete value.
+/// A node is rejected: it is of another kind than its type, of no kind, or follows a complete
+/// value.
 pub const SCALEVIEW_NODES_WRONG_KIND: u32 = 405;
-/// A node is rejected: a number, a length, a range of the pool or a number of children is out of range.
+/// A node is rejected: a number, a length, a range of the pool or a number of children is out of
+/// range.
 pub const SCALEVIEW_NODES_OUT_OF_RANGE: u32 = 406;
 /// A node is rejected: no arm has this position, or an earlier arm has its index.
 pub const SCALEVIEW_NODES_NO_SUCH_VARIANT: u32 = 407;
@@ -182,9 +189,11 @@ pub const SCALEVIEW_NODE_COMPACT: u32 = 5;
 pub const SCALEVIEW_NODE_COUNT: u32 = 6;
 /// A kind of node: a text: `high` bytes of UTF-8 from the position `low` of the pool on.
 pub const SCALEVIEW_NODE_TEXT: u32 = 7;
-/// A kind of node: a sequence or an array of u8: `high` bytes from the position `low` of the pool on.
+/// A kind of node: a sequence or an array of u8: `high` bytes from the position `low` of the pool
+/// on.
 pub const SCALEVIEW_NODE_BYTES: u32 = 8;
-/// A kind of node: a 256-bit integer: 32 bytes, the lowest first, from the position `low` of the pool on.
+/// A kind of node: a 256-bit integer: 32 bytes, the lowest first, from the position `low` of the
+/// pool on.
 pub const SCALEVIEW_NODE_WIDE: u32 = 9;
 /// A kind of node: a composite or a tuple.
 pub const SCALEVIEW_NODE_FIELDS: u32 = 10;
@@ -201,9 +210,11 @@ pub struct scaleview_type_shape {
     pub kind: u32,
     /// How many bytes the values take, of `SCALEVIEW_NO_VALUE` to `SCALEVIEW_SIZED`.
     pub value_class: u32,
-    /// The primitive, of `SCALEVIEW_BOOL` to `SCALEVIEW_I256`, if the kind is `SCALEVIEW_PRIMITIVE`.
+    /// The primitive, of `SCALEVIEW_BOOL` to `SCALEVIEW_I256`, if the kind is
+    /// `SCALEVIEW_PRIMITIVE`.
     pub primitive: u32,
-    /// The type of a sequence's or an array's elements, a compact's target, or a bit sequence's store.
+    /// The type of a sequence's or an array's elements, a compact's target, or a bit sequence's
+    /// store.
     pub element: u32,
     /// The type that names the order of a bit sequence.
     pub order: u32,
@@ -213,8 +224,9 @@ pub struct scaleview_type_shape {
     pub parts: u32,
 }
 
-/// A node of a value. The nodes of a value stand in the order of their bytes, each before its children, and the bytes of
-/// texts, byte runs and 256-bit integers in the same order in a pool beside them.
+/// A node of a value. The nodes of a value stand in the order of their bytes, each before its
+/// children, and the bytes of texts, byte runs and 256-bit integers in the same order in a pool
+/// beside them.
 #[repr(C)]
 #[derive(Clone, Copy, Debug, Default, PartialEq, Eq)]
 pub struct scaleview_node {
@@ -226,30 +238,34 @@ pub struct scaleview_node {
     pub children: u32,
     /// The position of a variant's arm, which is not its index.
     pub arm: u32,
-    /// A number's low half, or a place in the pool; of a composite, a tuple, a variant or a list how many nodes its subtree
-    /// has, itself included.
+    /// A number's low half, or a place in the pool; of a composite, a tuple, a variant or a list
+    /// how many nodes its subtree has, itself included.
     pub low: u64,
     /// A number's high half, or how many bytes it has in the pool.
     pub high: u64,
 }
 
-/// What a call reports besides its code, which is repeated here. Numbers are 0 unless the code gives them a meaning.
+/// What a call reports besides its code, which is repeated here. Numbers are 0 unless the code
+/// gives them a meaning.
 #[repr(C)]
 #[derive(Clone, Copy, Debug, Default, PartialEq, Eq)]
 pub struct scaleview_answer {
     /// The code that the call returned.
     pub code: u32,
-    /// The position of the type that has the unknown reference; the version of an open registry's metadata; the type of a
-    /// part; or the index of an arm.
+    /// The position of the type that has the unknown reference; the version of an open registry's
+    /// metadata; the type of a part; or the index of an arm.
     pub from: u32,
-    /// The place of a refusal, or where an open registry ends, in bytes from the start of the input; 1 if a part has a name;
-    /// the number of an arm's fields; the position of a type or of a node; or the number of bytes of a pool.
+    /// The place of a refusal, or where an open registry ends, in bytes from the start of the
+    /// input; 1 if a part has a name; the number of an arm's fields; the position of a type or of a
+    /// node; or the number of bytes of a pool.
     pub at: u64,
-    /// The number of bytes of a text, of types, of nodes, or of bytes of a piece that belong to the value.
+    /// The number of bytes of a text, of types, of nodes, or of bytes of a piece that belong to the
+    /// value.
     pub length: u64,
 }
 
-/// An open registry, or null. It may be copied. All copies are the same registry, and none may be used once one was closed.
+/// An open registry, or null. It may be copied. All copies are the same registry, and none may be
+/// used once one was closed.
 #[repr(C)]
 #[derive(Clone, Copy, Debug)]
 pub struct scaleview_registry {
@@ -270,20 +286,23 @@ const _: () = {
     assert!(size_of::<scaleview_type_shape>() == 28 && align_of::<scaleview_type_shape>() == 4);
     assert!(size_of::<scaleview_node>() == 32 && align_of::<scaleview_node>() == align_of::<u64>());
     assert!(offset_of!(scaleview_node, arm) == 12 && offset_of!(scaleview_node, low) == 16);
-    assert!(size_of::<scaleview_answer>() == 24 && align_of::<scaleview_answer>() == align_of::<u64>());
+    assert!(
+        size_of::<scaleview_answer>() == 24 && align_of::<scaleview_answer>() == align_of::<u64>()
+    );
     assert!(offset_of!(scaleview_answer, at) == 8 && offset_of!(scaleview_answer, length) == 16);
     assert!(size_of::<scaleview_registry>() == size_of::<*mut c_void>());
     assert!(size_of::<scaleview_session>() == size_of::<*mut c_void>());
 };
 
 unsafe extern "C" {
-    /// Opens the registry that all the bytes hold, with `metadata` a chain's metadata, whose end is not
-    /// read.
+    /// Opens the registry that all the bytes hold, with `metadata` a chain's metadata, whose end is
+    /// not read.
     ///
     /// # Safety
     ///
-    /// `registry` points to a handle that this call alone uses. `bytes` can be read for `length` elements.
-    /// `answer` can be written. What is written overlaps nothing else that the call is given.
+    /// `registry` points to a handle that this call alone uses. `bytes` can be read for `length`
+    /// elements. `answer` can be written. What is written overlaps nothing else that the call is
+    /// given.
     pub fn scaleview_open(
         bytes: *const u8,
         length: usize,
@@ -292,30 +311,32 @@ unsafe extern "C" {
         answer: *mut scaleview_answer,
     ) -> u32;
 
-    /// Frees a registry and sets it to null; returns [`SCALEVIEW_LENT`] while a session of it is not freed.
+    /// Frees a registry and sets it to null; returns [`SCALEVIEW_LENT`] while a session of it is
+    /// not freed.
     ///
     /// # Safety
     ///
-    /// `registry` points to a handle that is null or open, of which no copy is used afterwards. No other
-    /// call on the registry, or on a session of it, runs at the same time.
+    /// `registry` points to a handle that is null or open, of which no copy is used afterwards. No
+    /// other call on the registry, or on a session of it, runs at the same time.
     pub fn scaleview_close(registry: *mut scaleview_registry) -> u32;
 
     /// Reports the number of types in `answer.length`.
     ///
     /// # Safety
     ///
-    /// `registry` is null, or open and not closed before the call returns, by another thread too. No call
-    /// that changes the registry or a session of it runs at the same time. `answer` can be written. What is
-    /// written overlaps nothing else that the call is given.
+    /// `registry` is null, or open and not closed before the call returns, by another thread too.
+    /// No call that changes the registry or a session of it runs at the same time. `answer` can be
+    /// written. What is written overlaps nothing else that the call is given.
     pub fn scaleview_types(registry: scaleview_registry, answer: *mut scaleview_answer) -> u32;
 
     /// Writes the type's line to `out`: its position, class, kind and path, and a line feed.
     ///
     /// # Safety
     ///
-    /// `registry` is null, or open and not closed before the call returns, by another thread too. No call
-    /// that changes the registry or a session of it runs at the same time. `out` can be written for `room`
-    /// bytes. `answer` can be written. What is written overlaps nothing else that the call is given.
+    /// `registry` is null, or open and not closed before the call returns, by another thread too.
+    /// No call that changes the registry or a session of it runs at the same time. `out` can be
+    /// written for `room` bytes. `answer` can be written. What is written overlaps nothing else
+    /// that the call is given.
     pub fn scaleview_type_line(
         registry: scaleview_registry,
         id: u32,
@@ -328,9 +349,9 @@ unsafe extern "C" {
     ///
     /// # Safety
     ///
-    /// `registry` is null, or open and not closed before the call returns, by another thread too. No call
-    /// that changes the registry or a session of it runs at the same time. `shape` and `answer` can be
-    /// written. What is written overlaps nothing else that the call is given.
+    /// `registry` is null, or open and not closed before the call returns, by another thread too.
+    /// No call that changes the registry or a session of it runs at the same time. `shape` and
+    /// `answer` can be written. What is written overlaps nothing else that the call is given.
     pub fn scaleview_type(
         registry: scaleview_registry,
         id: u32,
@@ -342,9 +363,10 @@ unsafe extern "C" {
     ///
     /// # Safety
     ///
-    /// `registry` is null, or open and not closed before the call returns, by another thread too. No call
-    /// that changes the registry or a session of it runs at the same time. `out` can be written for `room`
-    /// bytes. `answer` can be written. What is written overlaps nothing else that the call is given.
+    /// `registry` is null, or open and not closed before the call returns, by another thread too.
+    /// No call that changes the registry or a session of it runs at the same time. `out` can be
+    /// written for `room` bytes. `answer` can be written. What is written overlaps nothing else
+    /// that the call is given.
     pub fn scaleview_part(
         registry: scaleview_registry,
         id: u32,
@@ -358,9 +380,10 @@ unsafe extern "C" {
     ///
     /// # Safety
     ///
-    /// `registry` is null, or open and not closed before the call returns, by another thread too. No call
-    /// that changes the registry or a session of it runs at the same time. `out` can be written for `room`
-    /// bytes. `answer` can be written. What is written overlaps nothing else that the call is given.
+    /// `registry` is null, or open and not closed before the call returns, by another thread too.
+    /// No call that changes the registry or a session of it runs at the same time. `out` can be
+    /// written for `room` bytes. `answer` can be written. What is written overlaps nothing else
+    /// that the call is given.
     pub fn scaleview_arm(
         registry: scaleview_registry,
         id: u32,
@@ -374,9 +397,10 @@ unsafe extern "C" {
     ///
     /// # Safety
     ///
-    /// `registry` is null, or open and not closed before the call returns, by another thread too. No call
-    /// that changes the registry or a session of it runs at the same time. `out` can be written for `room`
-    /// bytes. `answer` can be written. What is written overlaps nothing else that the call is given.
+    /// `registry` is null, or open and not closed before the call returns, by another thread too.
+    /// No call that changes the registry or a session of it runs at the same time. `out` can be
+    /// written for `room` bytes. `answer` can be written. What is written overlaps nothing else
+    /// that the call is given.
     pub fn scaleview_arm_field(
         registry: scaleview_registry,
         id: u32,
@@ -391,9 +415,10 @@ unsafe extern "C" {
     ///
     /// # Safety
     ///
-    /// `registry` is null, or open and not closed before the call returns, by another thread too. No call
-    /// that changes the registry or a session of it runs at the same time. `out` can be written for `room`
-    /// bytes. `answer` can be written. What is written overlaps nothing else that the call is given.
+    /// `registry` is null, or open and not closed before the call returns, by another thread too.
+    /// No call that changes the registry or a session of it runs at the same time. `out` can be
+    /// written for `room` bytes. `answer` can be written. What is written overlaps nothing else
+    /// that the call is given.
     pub fn scaleview_path(
         registry: scaleview_registry,
         id: u32,
@@ -407,9 +432,10 @@ unsafe extern "C" {
     ///
     /// # Safety
     ///
-    /// `registry` is null, or open and not closed before the call returns, by another thread too. No call
-    /// that changes the registry or a session of it runs at the same time. `path` can be read for `length`
-    /// elements. `answer` can be written. What is written overlaps nothing else that the call is given.
+    /// `registry` is null, or open and not closed before the call returns, by another thread too.
+    /// No call that changes the registry or a session of it runs at the same time. `path` can be
+    /// read for `length` elements. `answer` can be written. What is written overlaps nothing else
+    /// that the call is given.
     pub fn scaleview_find(
         registry: scaleview_registry,
         from: u32,
@@ -422,10 +448,10 @@ unsafe extern "C" {
     ///
     /// # Safety
     ///
-    /// `registry` is null, or open and not closed before the call returns, by another thread too. No call
-    /// that changes the registry or a session of it runs at the same time. `bytes` can be read for `length`
-    /// elements. `out` can be written for `room` bytes. `answer` can be written. What is written overlaps
-    /// nothing else that the call is given.
+    /// `registry` is null, or open and not closed before the call returns, by another thread too.
+    /// No call that changes the registry or a session of it runs at the same time. `bytes` can be
+    /// read for `length` elements. `out` can be written for `room` bytes. `answer` can be written.
+    /// What is written overlaps nothing else that the call is given.
     pub fn scaleview_decode(
         registry: scaleview_registry,
         id: u32,
@@ -443,10 +469,11 @@ unsafe extern "C" {
     ///
     /// # Safety
     ///
-    /// `registry` is null, or open and not closed before the call returns, by another thread too. No call
-    /// that changes the registry or a session of it runs at the same time. `bytes` can be read for `length`
-    /// elements. `nodes` can be written for `node_room` elements. `pool` can be written for `pool_room`
-    /// bytes. `answer` can be written. What is written overlaps nothing else that the call is given.
+    /// `registry` is null, or open and not closed before the call returns, by another thread too.
+    /// No call that changes the registry or a session of it runs at the same time. `bytes` can be
+    /// read for `length` elements. `nodes` can be written for `node_room` elements. `pool` can be
+    /// written for `pool_room` bytes. `answer` can be written. What is written overlaps nothing
+    /// else that the call is given.
     pub fn scaleview_decode_nodes(
         registry: scaleview_registry,
         id: u32,
@@ -466,10 +493,11 @@ unsafe extern "C" {
     ///
     /// # Safety
     ///
-    /// `registry` is null, or open and not closed before the call returns, by another thread too. No call
-    /// that changes the registry or a session of it runs at the same time. `nodes` can be read for `count`
-    /// elements. `pool` can be read for `pool_length` elements. `out` can be written for `room` bytes.
-    /// `answer` can be written. What is written overlaps nothing else that the call is given.
+    /// `registry` is null, or open and not closed before the call returns, by another thread too.
+    /// No call that changes the registry or a session of it runs at the same time. `nodes` can be
+    /// read for `count` elements. `pool` can be read for `pool_length` elements. `out` can be
+    /// written for `room` bytes. `answer` can be written. What is written overlaps nothing else
+    /// that the call is given.
     pub fn scaleview_encode_nodes(
         registry: scaleview_registry,
         id: u32,
@@ -488,9 +516,9 @@ unsafe extern "C" {
     ///
     /// # Safety
     ///
-    /// `registry` is null or open, and `session` points to a handle that this call alone uses. No other
-    /// call on the registry, or on a session of it, runs at the same time. `answer` can be written. What is
-    /// written overlaps nothing else that the call is given.
+    /// `registry` is null or open, and `session` points to a handle that this call alone uses. No
+    /// other call on the registry, or on a session of it, runs at the same time. `answer` can be
+    /// written. What is written overlaps nothing else that the call is given.
     pub fn scaleview_start(
         registry: scaleview_registry,
         id: u32,
@@ -505,10 +533,10 @@ unsafe extern "C" {
     ///
     /// # Safety
     ///
-    /// `session` points to a handle that is null or was set by [`scaleview_start`], which this call alone
-    /// uses. No other call on the registry, or on a session of it, runs at the same time. `piece` can be
-    /// read for `length` elements. `answer` can be written. What is written overlaps nothing else that the
-    /// call is given.
+    /// `session` points to a handle that is null or was set by [`scaleview_start`], which this call
+    /// alone uses. No other call on the registry, or on a session of it, runs at the same time.
+    /// `piece` can be read for `length` elements. `answer` can be written. What is written overlaps
+    /// nothing else that the call is given.
     pub fn scaleview_feed(
         session: *mut scaleview_session,
         piece: *const u8,
@@ -520,27 +548,27 @@ unsafe extern "C" {
     ///
     /// # Safety
     ///
-    /// `session` points to a handle that is null or was set by [`scaleview_start`], which this call alone
-    /// uses. No other call on the registry, or on a session of it, runs at the same time. `answer` can be
-    /// written. What is written overlaps nothing else that the call is given.
+    /// `session` points to a handle that is null or was set by [`scaleview_start`], which this call
+    /// alone uses. No other call on the registry, or on a session of it, runs at the same time.
+    /// `answer` can be written. What is written overlaps nothing else that the call is given.
     pub fn scaleview_taken(session: *mut scaleview_session, answer: *mut scaleview_answer) -> u32;
 
     /// Reports the number of nodes held.
     ///
     /// # Safety
     ///
-    /// `session` points to a handle that is null or was set by [`scaleview_start`], which this call alone
-    /// uses. No other call on the registry, or on a session of it, runs at the same time. `answer` can be
-    /// written. What is written overlaps nothing else that the call is given.
+    /// `session` points to a handle that is null or was set by [`scaleview_start`], which this call
+    /// alone uses. No other call on the registry, or on a session of it, runs at the same time.
+    /// `answer` can be written. What is written overlaps nothing else that the call is given.
     pub fn scaleview_nodes(session: *mut scaleview_session, answer: *mut scaleview_answer) -> u32;
 
     /// Reports the number of bytes of texts and byte runs held.
     ///
     /// # Safety
     ///
-    /// `session` points to a handle that is null or was set by [`scaleview_start`], which this call alone
-    /// uses. No other call on the registry, or on a session of it, runs at the same time. `answer` can be
-    /// written. What is written overlaps nothing else that the call is given.
+    /// `session` points to a handle that is null or was set by [`scaleview_start`], which this call
+    /// alone uses. No other call on the registry, or on a session of it, runs at the same time.
+    /// `answer` can be written. What is written overlaps nothing else that the call is given.
     pub fn scaleview_text_bytes(
         session: *mut scaleview_session,
         answer: *mut scaleview_answer,
@@ -550,10 +578,10 @@ unsafe extern "C" {
     ///
     /// # Safety
     ///
-    /// `session` points to a handle that is null or was set by [`scaleview_start`], which this call alone
-    /// uses. No other call on the registry, or on a session of it, runs at the same time. `out` can be
-    /// written for `room` bytes. `answer` can be written. What is written overlaps nothing else that the
-    /// call is given.
+    /// `session` points to a handle that is null or was set by [`scaleview_start`], which this call
+    /// alone uses. No other call on the registry, or on a session of it, runs at the same time.
+    /// `out` can be written for `room` bytes. `answer` can be written. What is written overlaps
+    /// nothing else that the call is given.
     pub fn scaleview_finish(
         session: *mut scaleview_session,
         out: *mut u8,
@@ -565,10 +593,11 @@ unsafe extern "C" {
     ///
     /// # Safety
     ///
-    /// `session` points to a handle that is null or was set by [`scaleview_start`], which this call alone
-    /// uses. No other call on the registry, or on a session of it, runs at the same time. `nodes` can be
-    /// written for `node_room` elements. `pool` can be written for `pool_room` bytes. `answer` can be
-    /// written. What is written overlaps nothing else that the call is given.
+    /// `session` points to a handle that is null or was set by [`scaleview_start`], which this call
+    /// alone uses. No other call on the registry, or on a session of it, runs at the same time.
+    /// `nodes` can be written for `node_room` elements. `pool` can be written for `pool_room`
+    /// bytes. `answer` can be written. What is written overlaps nothing else that the call is
+    /// given.
     pub fn scaleview_finish_nodes(
         session: *mut scaleview_session,
         nodes: *mut scaleview_node,
@@ -582,16 +611,16 @@ unsafe extern "C" {
     ///
     /// # Safety
     ///
-    /// `session` points to a handle that is null or was set by [`scaleview_start`], which this call alone
-    /// uses. No other call on the registry, or on a session of it, runs at the same time.
+    /// `session` points to a handle that is null or was set by [`scaleview_start`], which this call
+    /// alone uses. No other call on the registry, or on a session of it, runs at the same time.
     pub fn scaleview_free(session: *mut scaleview_session) -> u32;
 
     /// Writes the name of a code to `out`, at most 18 bytes of ASCII.
     ///
     /// # Safety
     ///
-    /// `out` can be written for `room` bytes. `answer` can be written. What is written overlaps nothing
-    /// else that the call is given.
+    /// `out` can be written for `room` bytes. `answer` can be written. What is written overlaps
+    /// nothing else that the call is given.
     pub fn scaleview_reason(
         code: u32,
         out: *mut u8,
@@ -599,7 +628,7 @@ unsafe extern "C" {
         answer: *mut scaleview_answer,
     ) -> u32;
 
-    /// Returns the version of the library, which is [`SCALEVIEW_VERSION`] if these declarations are its
-    /// own.
+    /// Returns the version of the library, which is [`SCALEVIEW_VERSION`] if these declarations are
+    /// its own.
     pub safe fn scaleview_version() -> u32;
 }

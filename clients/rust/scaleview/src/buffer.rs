@@ -2,13 +2,16 @@
 
 use crate::error::Error;
 use scaleview_sys::{
-    SCALEVIEW_MEMORY as MEMORY, SCALEVIEW_NO_ROOM as NO_ROOM, SCALEVIEW_OK as OK, scaleview_answer as Answer,
-    scaleview_node as Node,
+    SCALEVIEW_MEMORY as MEMORY, SCALEVIEW_NO_ROOM as NO_ROOM, SCALEVIEW_OK as OK,
+    scaleview_answer as Answer, scaleview_node as Node,
 };
 
 /// The answer of a call for which an allocation of this crate failed.
 fn no_memory() -> Answer {
-    Answer { code: MEMORY, ..Answer::default() }
+    Answer {
+        code: MEMORY,
+        ..Answer::default()
+    }
 }
 
 /// Returns an empty vector with this capacity.
@@ -32,7 +35,8 @@ pub(crate) fn extend(vector: &mut Vec<u8>, bytes: &[u8]) -> Result<(), Error> {
     Ok(())
 }
 
-/// Replaces a vector that is less than half full by one without spare capacity, if there is memory for that.
+/// Replaces a vector that is less than half full by one without spare capacity, if there is memory
+/// for that.
 fn tight<T: Copy>(vector: Vec<T>) -> Vec<T> {
     if vector.capacity() / 2 <= vector.len() {
         return vector;
@@ -54,16 +58,21 @@ fn more<T>(wanted: u64) -> Result<Vec<T>, Answer> {
 
 /// Returns the number of elements that a call wrote, unless it exceeds the capacity.
 fn written(length: u64, capacity: usize, answer: Answer) -> Result<usize, Answer> {
-    usize::try_from(length).ok().filter(|length| *length <= capacity).ok_or(answer)
+    usize::try_from(length)
+        .ok()
+        .filter(|length| *length <= capacity)
+        .ok_or(answer)
 }
 
-/// Returns the bytes that a call writes. It is called again with more room if `guess` was too little.
+/// Returns the bytes that a call writes. It is called again with more room if `guess` was too
+/// little.
 ///
 /// # Errors
 /// The call's answer, or `MEMORY`.
 ///
 /// # Safety
-/// The call writes at most as many bytes as it is given, and as many as its answer's `length` if it returns `OK`.
+/// The call writes at most as many bytes as it is given, and as many as its answer's `length` if it
+/// returns `OK`.
 pub(crate) unsafe fn bytes(
     guess: usize,
     mut call: impl FnMut(*mut u8, usize, &mut Answer) -> u32,
@@ -101,14 +110,15 @@ pub(crate) unsafe fn text(
     String::from_utf8(bytes).map_err(|_| Answer::default())
 }
 
-/// Returns the nodes and the pool that a call writes. It is called again with more room if a guess was too little.
+/// Returns the nodes and the pool that a call writes. It is called again with more room if a guess
+/// was too little.
 ///
 /// # Errors
 /// The call's answer, or `MEMORY`.
 ///
 /// # Safety
-/// The call writes at most as many nodes and bytes as it is given, and if it returns `OK` as many nodes as its answer's
-/// `length` and as many bytes as its `at`.
+/// The call writes at most as many nodes and bytes as it is given, and if it returns `OK` as many
+/// nodes as its answer's `length` and as many bytes as its `at`.
 pub(crate) unsafe fn nodes(
     guess: (usize, usize),
     mut call: impl FnMut(*mut Node, usize, *mut u8, usize, &mut Answer) -> u32,
@@ -117,7 +127,13 @@ pub(crate) unsafe fn nodes(
     let mut pool: Vec<u8> = reserved(guess.1).unwrap_or_default();
     loop {
         let mut answer = Answer::default();
-        match call(nodes.as_mut_ptr(), nodes.capacity(), pool.as_mut_ptr(), pool.capacity(), &mut answer) {
+        match call(
+            nodes.as_mut_ptr(),
+            nodes.capacity(),
+            pool.as_mut_ptr(),
+            pool.capacity(),
+            &mut answer,
+        ) {
             OK => {
                 let count = written(answer.length, nodes.capacity(), answer)?;
                 let length = written(answer.at, pool.capacity(), answer)?;
@@ -128,7 +144,10 @@ pub(crate) unsafe fn nodes(
                 }
                 return Ok((tight(nodes), tight(pool)));
             }
-            NO_ROOM if answer.length > nodes.capacity() as u64 || answer.at > pool.capacity() as u64 => {
+            NO_ROOM
+                if answer.length > nodes.capacity() as u64
+                    || answer.at > pool.capacity() as u64 =>
+            {
                 nodes = more(answer.length)?;
                 pool = more(answer.at)?;
             }

@@ -86,7 +86,8 @@ reasons! {
     409 BadText "A text is not UTF-8.",
 }
 
-/// Why there is no answer. Places are in bytes from the start of the input, for a session in all its pieces.
+/// Why there is no answer. Places are in bytes from the start of the input, for a session in all
+/// its pieces.
 ///
 /// It is displayed as the command tells it.
 ///
@@ -154,9 +155,11 @@ pub enum Error {
     },
     /// An allocation failed, or would have exceeded [`Limits::memory`](crate::Limits::memory).
     Memory,
-    /// The library that is linked is of another version than this crate, by [`scaleview_sys::scaleview_version`].
+    /// The library that is linked is of another version than this crate, by
+    /// [`scaleview_sys::scaleview_version`].
     Version {
-        /// The library's version: 10000 times the major number, 100 times the minor one, and the patch number.
+        /// The library's version: 10000 times the major number, 100 times the minor one, and the
+        /// patch number.
         found: u32,
     },
     /// The library returned what its header doesn't promise.
@@ -169,19 +172,29 @@ pub enum Error {
 impl Error {
     pub(crate) fn of(answer: Answer) -> Error {
         if let Some(reason) = RegistryReason::of(answer.code) {
-            return Error::Registry { reason, place: answer.at };
+            return Error::Registry {
+                reason,
+                place: answer.at,
+            };
         }
         if let Some(reason) = ValueReason::of(answer.code) {
-            return Error::Value { reason, place: answer.at };
+            return Error::Value {
+                reason,
+                place: answer.at,
+            };
         }
         if let Some(reason) = NodeReason::of(answer.code) {
-            return Error::Node { reason, index: answer.at };
+            return Error::Node {
+                reason,
+                index: answer.at,
+            };
         }
         match answer.code {
             sys::SCALEVIEW_MEMORY => Error::Memory,
-            sys::SCALEVIEW_REGISTRY_UNKNOWN_REFERENCE => {
-                Error::UnknownReference { from: answer.from, to: answer.at as u32 }
-            }
+            sys::SCALEVIEW_REGISTRY_UNKNOWN_REFERENCE => Error::UnknownReference {
+                from: answer.from,
+                to: answer.at as u32,
+            },
             sys::SCALEVIEW_LIMIT_OUT_OF_RANGE => Error::LimitOutOfRange,
             code => Error::Library { code },
         }
@@ -200,13 +213,19 @@ impl fmt::Display for Error {
     fn fmt(&self, f: &mut fmt::Formatter<'_>) -> fmt::Result {
         match self {
             Error::Registry { reason, place } => write!(f, "registry: {reason} at {place}"),
-            Error::UnknownReference { from, to } => write!(f, "check: UnknownType {to} in type {from}"),
+            Error::UnknownReference { from, to } => {
+                write!(f, "check: UnknownType {to} in type {from}")
+            }
             Error::UnknownType { id } => write!(f, "type: UnknownType {id}"),
             Error::LimitOutOfRange => f.write_str("limits: LimitOutOfRange"),
             Error::Value { reason, place } => write!(f, "value: {reason} at {place}"),
             Error::Node { reason, index } => write!(f, "node: {reason} at {index}"),
-            Error::UnknownField { index, field } => write!(f, "node: UnknownField {field} at {index}"),
-            Error::MissingField { index, field } => write!(f, "node: MissingField {field} at {index}"),
+            Error::UnknownField { index, field } => {
+                write!(f, "node: UnknownField {field} at {index}")
+            }
+            Error::MissingField { index, field } => {
+                write!(f, "node: MissingField {field} at {index}")
+            }
             Error::Memory => f.write_str("memory"),
             Error::Version { found } => write!(f, "library: version {found}"),
             Error::Library { code } => write!(f, "library: code {code}"),

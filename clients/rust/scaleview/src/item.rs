@@ -7,20 +7,24 @@ use crate::types::{Field, Primitive, TypeId};
 use crate::value::{Value, ValueRef};
 use scaleview_sys::{self as sys, scaleview_node as Node};
 
-/// A value that a program builds, to be encoded by [`Registry::encode`]. Texts and bytes are borrowed.
+/// A value that a program builds, to be encoded by [`Registry::encode`]. Texts and bytes are
+/// borrowed.
 ///
-/// It has no types: the registry says which they are when it is encoded. So one kind of number is enough for integers of
-/// all widths, compact ones too, and fields and variants are found by their names.
+/// It has no types: the registry says which they are when it is encoded. So one kind of number is
+/// enough for integers of all widths, compact ones too, and fields and variants are found by their
+/// names.
 ///
 /// ```
 /// # use scaleview::{Error, Item, Registry};
 /// # fn main() -> Result<(), Error> {
 /// # let registry = Registry::open(
-/// #     b"\x0c\x00\x00\x00\x05\x05\x00\x04\x04\x18Option\x00\x01\x08\x10None\x00\x00\x00\x10Some\x04\x00\x00\x00\x00\x01\x00\x00\
+/// #     b"\x0c\x00\x00\x00\x05\x05\x00\x04\x04\x18Option\x00\x01\x08\x10None\x00\x00\x00\
+/// #     \x10Some\x04\x00\x00\x00\x00\x01\x00\x00\
 /// #     \x08\x04\x08At\x00\x00\x08\x01\x0cend\x04\x00\x00\x01\x14start\x00\x00\x00\x00")?;
 /// // struct At { end: Option<u32>, start: u32 }
 /// let at = registry.find("At").unwrap();
-/// let item = Item::named([("start", Item::from(1)), ("end", Item::variant("Some", [Item::from(2)]))]);
+/// let end = Item::variant("Some", [2.into()]);
+/// let item = Item::named([("start", 1.into()), ("end", end)]);
 /// assert_eq!(registry.encode(at, &item)?, [1, 2, 0, 0, 0, 1, 0, 0, 0]);
 /// # Ok(())
 /// # }
@@ -74,7 +78,10 @@ impl<'a> Item<'a> {
     }
 
     /// Returns a variant by its name, with its fields by their names.
-    pub fn named_variant(name: &'a str, fields: impl IntoIterator<Item = (&'a str, Item<'a>)>) -> Item<'a> {
+    pub fn named_variant(
+        name: &'a str,
+        fields: impl IntoIterator<Item = (&'a str, Item<'a>)>,
+    ) -> Item<'a> {
         Item::NamedVariant(name, fields.into_iter().collect())
     }
 
@@ -169,8 +176,17 @@ struct Lowering<'a> {
 }
 
 /// Returns the nodes of an item of the type at this position, and their bytes.
-pub(crate) fn lower<'a>(registry: &'a Registry, id: TypeId, item: &'a Item<'a>) -> Result<(Vec<Node>, Vec<u8>), Error> {
-    let mut lowering = Lowering { registry, nodes: Vec::new(), pool: Vec::new(), rest: Vec::new() };
+pub(crate) fn lower<'a>(
+    registry: &'a Registry,
+    id: TypeId,
+    item: &'a Item<'a>,
+) -> Result<(Vec<Node>, Vec<u8>), Error> {
+    let mut lowering = Lowering {
+        registry,
+        nodes: Vec::new(),
+        pool: Vec::new(),
+        rest: Vec::new(),
+    };
     buffer::push(&mut lowering.rest, (id, item))?;
     while let Some((id, item)) = lowering.rest.pop() {
         lowering.take(id, item)?;
@@ -185,11 +201,23 @@ impl<'a> Lowering<'a> {
     }
 
     fn rejected(&self, reason: NodeReason) -> Error {
-        Error::Node { reason, index: self.index() }
+        Error::Node {
+            reason,
+            index: self.index(),
+        }
     }
 
     fn put(&mut self, kind: u32, id: TypeId, low: u64, high: u64) -> Result<(), Error> {
-        buffer::push(&mut self.nodes, Node { kind, r#type: id, low, high, ..Node::default() })
+        buffer::push(
+            &mut self.nodes,
+            Node {
+                kind,
+                r#type: id,
+                low,
+                high,
+                ..Node::default()
+            },
+        )
     }
 
     fn put_bytes(&mut self, kind: u32, id: TypeId, bytes: &[u8]) -> Result<(), Error> {
@@ -198,9 +226,25 @@ impl<'a> Lowering<'a> {
         self.put(kind, id, at, bytes.len() as u64)
     }
 
-    fn put_parent(&mut self, kind: u32, id: TypeId, arm: u32, children: usize) -> Result<(), Error> {
-        let children = u32::try_from(children).map_err(|_| self.rejected(NodeReason::OutOfRange))?;
-        buffer::push(&mut self.nodes, Node { kind, r#type: id, children, arm, ..Node::default() })
+    fn put_parent(
+        &mut self,
+        kind: u32,
+        id: TypeId,
+        arm: u32,
+        children: usize,
+    ) -> Result<(), Error> {
+        let children =
+            u32::try_from(children).map_err(|_| self.rejected(NodeReason::OutOfRange))?;
+        buffer::push(
+            &mut self.nodes,
+            Node {
+                kind,
+                r#type: id,
+                children,
+                arm,
+                ..Node::default()
+            },
+        )
     }
 
     /// Puts an integer as its type has it; `sign` is what the bytes above those of a wide one are.
@@ -209,7 +253,11 @@ impl<'a> Lowering<'a> {
         let (low, high) = (number as u64, (number >> 64) as u64);
         let shape = self.registry.details(id)?.shape;
         let is_above_signed = !is_negative && high >> 63 != 0;
-        let primitive = if shape.kind == sys::SCALEVIEW_PRIMITIVE { Primitive::of(shape.primitive) } else { None };
+        let primitive = if shape.kind == sys::SCALEVIEW_PRIMITIVE {
+            Primitive::of(shape.primitive)
+        } else {
+            None
+        };
         match primitive {
             Some(U256) if is_negative => Err(self.rejected(NodeReason::OutOfRange)),
             Some(U256 | I256) => {
@@ -219,10 +267,16 @@ impl<'a> Lowering<'a> {
                 buffer::extend(&mut self.pool, &sign)?;
                 self.put(sys::SCALEVIEW_NODE_WIDE, id, at, 32)
             }
-            Some(I8 | I16 | I32 | I64 | I128) if is_above_signed => Err(self.rejected(NodeReason::OutOfRange)),
-            Some(I8 | I16 | I32 | I64 | I128) => self.put(sys::SCALEVIEW_NODE_SIGNED, id, low, high),
+            Some(I8 | I16 | I32 | I64 | I128) if is_above_signed => {
+                Err(self.rejected(NodeReason::OutOfRange))
+            }
+            Some(I8 | I16 | I32 | I64 | I128) => {
+                self.put(sys::SCALEVIEW_NODE_SIGNED, id, low, high)
+            }
             _ if is_negative => Err(self.rejected(NodeReason::OutOfRange)),
-            _ if shape.kind == sys::SCALEVIEW_COMPACT => self.put(sys::SCALEVIEW_NODE_COMPACT, id, low, high),
+            _ if shape.kind == sys::SCALEVIEW_COMPACT => {
+                self.put(sys::SCALEVIEW_NODE_COMPACT, id, low, high)
+            }
             _ => self.put(sys::SCALEVIEW_NODE_UNSIGNED, id, low, high),
         }
     }
@@ -236,13 +290,24 @@ impl<'a> Lowering<'a> {
     }
 
     /// Leaves the items of fields to be taken, in the order of the fields. `index` is their node's.
-    fn leave_named(&mut self, fields: &[Field], items: &'a [(&'a str, Item<'a>)], index: u64) -> Result<(), Error> {
+    fn leave_named(
+        &mut self,
+        fields: &[Field],
+        items: &'a [(&'a str, Item<'a>)],
+        index: u64,
+    ) -> Result<(), Error> {
         for (position, field) in fields.iter().enumerate().rev() {
             let is_field = |item: &&'a (&'a str, Item<'a>)| field.name() == Some(item.0);
             // Most names are in order.
-            let found = items.get(position).filter(is_field).or_else(|| items.iter().find(is_field));
+            let found = items
+                .get(position)
+                .filter(is_field)
+                .or_else(|| items.iter().find(is_field));
             let Some((_, item)) = found else {
-                return Err(Error::MissingField { index, field: position as u32 });
+                return Err(Error::MissingField {
+                    index,
+                    field: position as u32,
+                });
             };
             buffer::push(&mut self.rest, (field.type_id, item))?;
         }
@@ -254,7 +319,11 @@ impl<'a> Lowering<'a> {
             let is_unknown = !fields.iter().any(|field| field.name() == Some(*name));
             is_unknown || items.iter().take(at).any(|(before, _)| before == name)
         };
-        let field = items.iter().enumerate().position(is_odd).unwrap_or_default() as u32;
+        let field = items
+            .iter()
+            .enumerate()
+            .position(is_odd)
+            .unwrap_or_default() as u32;
         Err(Error::UnknownField { index, field })
     }
 
@@ -265,13 +334,17 @@ impl<'a> Lowering<'a> {
             return Err(self.rejected(NodeReason::WrongKind));
         }
         let element = self.registry.details(shape.element)?.shape;
-        let is_counted = shape.kind == sys::SCALEVIEW_SEQUENCE && element.value_class == sys::SCALEVIEW_EMPTY;
+        let is_counted =
+            shape.kind == sys::SCALEVIEW_SEQUENCE && element.value_class == sys::SCALEVIEW_EMPTY;
         if is_counted && items.iter().all(|item| *item == Item::Unit) {
             return self.put(sys::SCALEVIEW_NODE_COUNT, id, items.len() as u64, 0);
         }
         self.put_parent(sys::SCALEVIEW_NODE_LIST, id, 0, items.len())?;
-        self.rest.try_reserve(items.len()).map_err(|_| Error::Memory)?;
-        self.rest.extend(items.iter().rev().map(|item| (shape.element, item)));
+        self.rest
+            .try_reserve(items.len())
+            .map_err(|_| Error::Memory)?;
+        self.rest
+            .extend(items.iter().rev().map(|item| (shape.element, item)));
         Ok(())
     }
 
@@ -293,7 +366,9 @@ impl<'a> Lowering<'a> {
             Item::Signed(number) => self.put_number(id, *number as u128, *number < 0),
             Item::Wide(bytes) => self.put_bytes(sys::SCALEVIEW_NODE_WIDE, id, bytes),
             Item::Empties(count) => self.put(sys::SCALEVIEW_NODE_COUNT, id, u64::from(*count), 0),
-            Item::List(items) if is_empty && items.is_empty() => self.put(sys::SCALEVIEW_NODE_EMPTY, id, 0, 0),
+            Item::List(items) if is_empty && items.is_empty() => {
+                self.put(sys::SCALEVIEW_NODE_EMPTY, id, 0, 0)
+            }
             Item::List(items) => self.take_list(id, items),
             Item::Fields(items) if has_fields => {
                 let fields = &details.list.fields;
@@ -310,16 +385,26 @@ impl<'a> Lowering<'a> {
                 let fields = &details.list.fields;
                 if is_empty && items.iter().all(|(_, item)| *item == Item::Unit) {
                     self.leave_named(fields, items, index)?;
-                    self.rest.truncate(self.rest.len().saturating_sub(fields.len()));
+                    self.rest
+                        .truncate(self.rest.len().saturating_sub(fields.len()));
                     return self.put(sys::SCALEVIEW_NODE_EMPTY, id, 0, 0);
                 }
                 self.put_parent(sys::SCALEVIEW_NODE_FIELDS, id, 0, items.len())?;
                 self.leave_named(fields, items, index)
             }
-            Item::Variant(name, _) | Item::NamedVariant(name, _) if kind == sys::SCALEVIEW_VARIANT => {
-                let arm = details.variants.iter().position(|variant| variant.name() == *name);
+            Item::Variant(name, _) | Item::NamedVariant(name, _)
+                if kind == sys::SCALEVIEW_VARIANT =>
+            {
+                let arm = details
+                    .variants
+                    .iter()
+                    .position(|variant| variant.name() == *name);
                 let arm = arm.ok_or(self.rejected(NodeReason::NoSuchVariant))?;
-                let fields = details.variants.get(arm).map(|variant| variant.fields()).unwrap_or_default();
+                let fields = details
+                    .variants
+                    .get(arm)
+                    .map(|variant| variant.fields())
+                    .unwrap_or_default();
                 if matches!(item, Item::Variant(_, items) if items.len() != fields.len()) {
                     return Err(self.rejected(NodeReason::OutOfRange));
                 }

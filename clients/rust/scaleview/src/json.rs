@@ -3,7 +3,7 @@
 use crate::buffer;
 use crate::types::{Field, Keys, Primitive};
 use crate::value::{Children, Kind, ValueRef};
-use std::{fmt, slice};
+use std::{fmt, slice, str};
 
 /// The parts of an array or an object that are not written yet.
 enum Rest<'a> {
@@ -44,7 +44,11 @@ impl<'a> Rest<'a> {
     }
 
     fn brackets(&self) -> (&'static str, &'static str) {
-        if let Rest::Array(_) = self { ("[", "]") } else { ("{", "}") }
+        if let Rest::Array(_) = self {
+            ("[", "]")
+        } else {
+            ("{", "}")
+        }
     }
 }
 
@@ -85,15 +89,22 @@ impl fmt::Display for ValueRef<'_> {
 }
 
 /// Writes a value that has no parts, or the start of one that has.
-fn begin<'a>(f: &mut fmt::Formatter<'_>, open: &mut Vec<Open<'a>>, value: ValueRef<'a>) -> fmt::Result {
+fn begin<'a>(
+    f: &mut fmt::Formatter<'_>,
+    open: &mut Vec<Open<'a>>,
+    value: ValueRef<'a>,
+) -> fmt::Result {
     let kind = value.kind();
     match kind {
         Kind::Unit => return f.write_str("null"),
         Kind::Bool(is) => return f.write_str(if is { "true" } else { "false" }),
         Kind::Char(c) => return write_text(f, c.encode_utf8(&mut [0; 4])),
         Kind::Text(text) => return write_text(f, text),
-        Kind::Bytes(bytes) => return write_hex(f, bytes.iter()),
-        Kind::Wide(bytes) => return write_hex(f, bytes.iter().rev()),
+        Kind::Bytes(bytes) => return write_hex(f, bytes),
+        Kind::Wide(mut bytes) => {
+            bytes.reverse();
+            return write_hex(f, &bytes);
+        }
         Kind::Empties(count) => return write!(f, "{{\"count\":{count}}}"),
         Kind::Unsigned(number) | Kind::Compact(number) => return write_number(f, value, number),
         Kind::Signed(number) => return write_number(f, value, number),
@@ -106,11 +117,23 @@ fn begin<'a>(f: &mut fmt::Formatter<'_>, open: &mut Vec<Open<'a>>, value: ValueR
     }
     let rest = Rest::of(value)?;
     f.write_str(rest.brackets().0)?;
-    buffer::push(open, Open { rest, is_first: true, is_variant: kind == Kind::Variant }).map_err(|_| fmt::Error)
+    buffer::push(
+        open,
+        Open {
+            rest,
+            is_first: true,
+            is_variant: kind == Kind::Variant,
+        },
+    )
+    .map_err(|_| fmt::Error)
 }
 
 /// Writes an integer, as a text if its type has more than eight bytes.
-fn write_number(f: &mut fmt::Formatter<'_>, value: ValueRef<'_>, number: impl fmt::Display) -> fmt::Result {
+fn write_number(
+    f: &mut fmt::Formatter<'_>,
+    value: ValueRef<'_>,
+    number: impl fmt::Display,
+) -> fmt::Result {
     match value.registry.target(value.type_id()) {
         Some(Primitive::U128 | Primitive::I128) => write!(f, "\"{number}\""),
         _ => write!(f, "{number}"),
@@ -142,22 +165,17 @@ fn write_text(f: &mut fmt::Formatter<'_>, text: &str) -> fmt::Result {
 }
 
 /// Writes a text of hexadecimal digits.
-fn write_hex<'a>(f: &mut fmt::Formatter<'_>, bytes: impl Iterator<Item = &'a u8>) -> fmt::Result {
-    const ROOM: usize = 64;
-    let digit = |half: u8| if half < 10 { b'0' + half } else { b'a' + half - 10 };
+fn write_hex(f: &mut fmt::Formatter<'_>, bytes: &[u8]) -> fmt::Result {
+    const DIGITS: &[u8; 16] = b"0123456789abcdef";
+    let digit = |half: u8| DIGITS.get(half as usize & 15).copied().unwrap_or_default();
     f.write_str("\"0x")?;
-    let (mut room, mut length) = ([0; ROOM], 0);
-    let mut write = |room: &[u8]| f.write_str(std::str::from_utf8(room).map_err(|_| fmt::Error)?);
-    for byte in bytes {
-        if let Some([high, low]) = room.get_mut(length..length + 2) {
-            (*high, *low) = (digit(byte >> 4), digit(byte & 15));
-            length += 2;
+    let mut room = [0; 128];
+    for some in bytes.chunks(room.len() / 2) {
+        for (pair, byte) in room.chunks_exact_mut(2).zip(some) {
+            pair.copy_from_slice(&[digit(byte >> 4), digit(*byte)]);
         }
-        if length == ROOM {
-            write(&room)?;
-            length = 0;
-        }
+        let digits = room.get(..2 * some.len()).unwrap_or_default();
+        f.write_str(str::from_utf8(digits).map_err(|_| fmt::Error)?)?;
     }
-    write(room.get(..length).unwrap_or_default())?;
     f.write_str("\"")
 }

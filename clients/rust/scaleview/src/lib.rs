@@ -1,8 +1,10 @@
-//! Decodes and encodes SCALE, the binary codec of Polkadot and Substrate chains, by a registry of types.
+//! Decodes and encodes SCALE, the binary codec of Polkadot and Substrate chains, by a registry of
+//! types.
 //!
-//! A [`Registry`] is opened once, from a chain's metadata or from a registry alone. It decodes any number of values: as a
-//! [`Value`] to walk through, as JSON text, or in pieces by a [`Session`]. It encodes a [`Value`] again, or an [`Item`]
-//! that a program builds. The decoder behind this crate is proved; this wrapper is tested.
+//! A [`Registry`] is opened once, from a chain's metadata or from a registry alone. It decodes any
+//! number of values: as a [`Value`] to walk through, as JSON text, or in pieces by a [`Session`].
+//! It encodes a [`Value`] again, or an [`Item`] that a program builds. The decoder behind this
+//! crate is proved; this wrapper is tested.
 //!
 //! ```
 //! # fn main() -> Result<(), scaleview::Error> {

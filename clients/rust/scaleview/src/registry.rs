@@ -8,7 +8,9 @@ use crate::limits::Limits;
 use crate::session::{OwnedSession, Session};
 use crate::types::{Primitive, Type, TypeId, Types};
 use crate::value::Value;
-use scaleview_sys::{self as sys, scaleview_answer as Answer, scaleview_node as Node, scaleview_registry as Handle};
+use scaleview_sys::{
+    self as sys, scaleview_answer as Answer, scaleview_node as Node, scaleview_registry as Handle,
+};
 use std::fmt;
 use std::sync::atomic::{AtomicU8, Ordering};
 use std::sync::{Arc, OnceLock, PoisonError, RwLock};
@@ -16,12 +18,13 @@ use std::sync::{Arc, OnceLock, PoisonError, RwLock};
 /// The library's handle of an open registry.
 struct Raw(Handle);
 
-// SAFETY: the header ties no handle to a thread; it wants calls kept apart. "scaleview_types, the calls that describe types,
-// scaleview_decode, scaleview_decode_nodes and scaleview_encode_nodes only read a registry: any number of threads may make
-// them on one registry at the same time." They are made in `Registry::reading`, which shares the lock. "Every other call
-// changes its handles, and the count of sessions that a registry keeps without a lock: it must be the only one on this
-// registry and its sessions while it runs." They are made in `Registry::changing`, which has the lock alone, those on a
-// session too; or in `drop`, where nothing else has the registry.
+// SAFETY: the header ties no handle to a thread; it wants calls kept apart. "scaleview_types, the
+// calls that describe types, scaleview_decode, scaleview_decode_nodes and scaleview_encode_nodes
+// only read a registry: any number of threads may make them on one registry at the same time." They
+// are made in `Registry::reading`, which shares the lock. "Every other call changes its handles,
+// and the count of sessions that a registry keeps without a lock: it must be the only one on this
+// registry and its sessions while it runs." They are made in `Registry::changing`, which has the
+// lock alone, those on a session too; or in `drop`, where nothing else has the registry.
 unsafe impl Send for Raw {}
 // SAFETY: as above.
 unsafe impl Sync for Raw {}
@@ -37,8 +40,9 @@ struct Slot {
 
 /// A registry of types that is open. It is freed when it is dropped.
 ///
-/// It may be shared by threads. Calls that only read it run at the same time: decoding, encoding and what is asked of types.
-/// A call on a session has the registry alone while it runs, since the library wants that.
+/// It may be shared by threads. Calls that only read it run at the same time: decoding, encoding
+/// and what is asked of types. A call on a session has the registry alone while it runs, since the
+/// library wants that.
 ///
 /// ```
 /// # use scaleview::{Error, Registry};
@@ -70,7 +74,8 @@ pub struct Registry {
     version: u32,
 }
 
-/// The first four bytes of metadata. No registry alone begins with them: its first type would have the id 29.
+/// The first four bytes of metadata. No registry alone begins with them: its first type would have
+/// the id 29.
 const METADATA: &[u8] = b"meta";
 
 impl Registry {
@@ -79,25 +84,46 @@ impl Registry {
         if found / 100 != sys::SCALEVIEW_VERSION / 100 {
             return Err(Error::Version { found });
         }
-        let (mut handle, mut answer) = (Handle { inside: std::ptr::null_mut() }, Answer::default());
+        let (mut handle, mut answer) = (
+            Handle {
+                inside: std::ptr::null_mut(),
+            },
+            Answer::default(),
+        );
         // SAFETY: the slice and both places are this call's, and the handle is null.
-        let code = unsafe { sys::scaleview_open(bytes.as_ptr(), bytes.len(), metadata, &mut handle, &mut answer) };
+        let code = unsafe {
+            sys::scaleview_open(
+                bytes.as_ptr(),
+                bytes.len(),
+                metadata,
+                &mut handle,
+                &mut answer,
+            )
+        };
         if code != sys::SCALEVIEW_OK {
             return Err(Error::of(answer));
         }
         let raw = RwLock::new(Raw(handle));
         let len = answer.length as u32;
-        let mut registry = Registry { raw, slots: Vec::new(), len, end: answer.at, version: answer.from };
+        let mut registry = Registry {
+            raw,
+            slots: Vec::new(),
+            len,
+            end: answer.at,
+            version: answer.from,
+        };
         registry.slots = buffer::reserved(len as usize)?;
         registry.slots.resize_with(len as usize, Slot::default);
         Ok(registry)
     }
 
-    /// Opens the registry that all the bytes hold: a chain's metadata, version 14 or 15, if they begin with the four letters
-    /// `meta`, and otherwise a registry alone. What follows the registry in metadata is not read. The bytes are not kept.
+    /// Opens the registry that all the bytes hold: a chain's metadata, version 14 or 15, if they
+    /// begin with the four letters `meta`, and otherwise a registry alone. What follows the
+    /// registry in metadata is not read. The bytes are not kept.
     ///
     /// # Errors
-    /// `Registry` at the first error, `UnknownReference` if a type refers to one that doesn't exist, `Memory`, `Version`.
+    /// `Registry` at the first error, `UnknownReference` if a type refers to one that doesn't
+    /// exist, `Memory`, `Version`.
     pub fn open(bytes: &[u8]) -> Result<Registry, Error> {
         Registry::opened(bytes, bytes.starts_with(METADATA))
     }
@@ -124,7 +150,8 @@ impl Registry {
         call(raw.0)
     }
 
-    /// Makes a call that changes the registry or a session of it; no other call runs at the same time.
+    /// Makes a call that changes the registry or a session of it; no other call runs at the same
+    /// time.
     pub(crate) fn changing<T>(&self, call: impl FnOnce(Handle) -> T) -> T {
         let raw = self.raw.write().unwrap_or_else(PoisonError::into_inner);
         call(raw.0)
@@ -153,38 +180,57 @@ impl Registry {
     /// Returns the type at this position.
     pub fn get(&self, id: TypeId) -> Option<Type<'_>> {
         // SAFETY: the registry is open, and the lock is shared.
-        let shape = self.reading(|handle| unsafe { Reader::new(handle) }.shape(id)).ok()?;
-        Some(Type { registry: self, id, shape })
+        let shape = self
+            .reading(|handle| unsafe { Reader::new(handle) }.shape(id))
+            .ok()?;
+        Some(Type {
+            registry: self,
+            id,
+            shape,
+        })
     }
 
     /// Returns the types, in the order of their positions.
     pub fn types(&self) -> Types<'_> {
-        Types { registry: self, rest: 0..self.len }
+        Types {
+            registry: self,
+            rest: 0..self.len,
+        }
     }
 
-    /// Returns the first type with this path, its segments joined by `::`. An empty path finds the first type without one.
+    /// Returns the first type with this path, its segments joined by `::`. An empty path finds the
+    /// first type without one.
     pub fn find(&self, path: &str) -> Option<TypeId> {
         self.find_from(0, path)
     }
 
-    /// Returns the first type with this path, from the position `from` on. A path need not be one type's alone.
+    /// Returns the first type with this path, from the position `from` on. A path need not be one
+    /// type's alone.
     pub fn find_from(&self, from: TypeId, path: &str) -> Option<TypeId> {
         let mut answer = Answer::default();
         let code = self.reading(|handle| {
-            // SAFETY: the registry is open and the lock is shared; the slice and the place are this call's.
+            // SAFETY: the registry is open and the lock is shared; the slice and the place are this
+            // call's.
             unsafe { sys::scaleview_find(handle, from, path.as_ptr(), path.len(), &mut answer) }
         });
-        if code == sys::SCALEVIEW_OK { TypeId::try_from(answer.at).ok() } else { None }
+        if code == sys::SCALEVIEW_OK {
+            TypeId::try_from(answer.at).ok()
+        } else {
+            None
+        }
     }
 
-    /// Returns the type's position, class, kind and path, and a line feed, as the command prints them.
+    /// Returns the type's position, class, kind and path, and a line feed, as the command prints
+    /// them.
     ///
     /// # Errors
     /// `UnknownType`, `Memory`.
     pub fn type_line(&self, id: TypeId) -> Result<String, Error> {
         let call = |out, room, answer: &mut Answer| {
             // SAFETY: the registry is open and the lock is shared; the places are this call's.
-            self.reading(|handle| unsafe { sys::scaleview_type_line(handle, id, out, room, answer) })
+            self.reading(|handle| unsafe {
+                sys::scaleview_type_line(handle, id, out, room, answer)
+            })
         };
         // SAFETY: the header promises what `text` wants.
         unsafe { buffer::text(128, call) }.map_err(Error::of_type(id))
@@ -192,7 +238,10 @@ impl Registry {
 
     /// Returns what the registry says of a type, which is read once and kept.
     pub(crate) fn details(&self, id: TypeId) -> Result<&Details, Error> {
-        let slot = self.slots.get(id as usize).ok_or(Error::UnknownType { id })?;
+        let slot = self
+            .slots
+            .get(id as usize)
+            .ok_or(Error::UnknownType { id })?;
         if slot.details.get().is_none() {
             // SAFETY: the registry is open, and the lock is shared.
             let details = self.reading(|handle| unsafe { Reader::new(handle) }.details(id))?;
@@ -201,12 +250,18 @@ impl Registry {
             // Another thread may have read the same meanwhile.
             let _ = slot.details.set(one);
         }
-        slot.details.get().and_then(|one| one.first()).ok_or(Error::Memory)
+        slot.details
+            .get()
+            .and_then(|one| one.first())
+            .ok_or(Error::Memory)
     }
 
     /// Returns the next type inside one that wraps one value, the primitive, or neither.
     fn inside(&self, reader: Reader, id: TypeId) -> Result<TypeId, Option<Primitive>> {
-        let known = self.slots.get(id as usize).map_or(0, |slot| slot.target.load(Ordering::Relaxed));
+        let known = self
+            .slots
+            .get(id as usize)
+            .map_or(0, |slot| slot.target.load(Ordering::Relaxed));
         if known != 0 {
             return Err(Primitive::of(u32::from(known) - 1));
         }
@@ -214,7 +269,9 @@ impl Registry {
         match shape.kind {
             sys::SCALEVIEW_PRIMITIVE => Err(Primitive::of(shape.primitive)),
             sys::SCALEVIEW_COMPACT => Ok(shape.element),
-            sys::SCALEVIEW_COMPOSITE | sys::SCALEVIEW_TUPLE if shape.parts == 1 => reader.first_part(id).ok_or(None),
+            sys::SCALEVIEW_COMPOSITE | sys::SCALEVIEW_TUPLE if shape.parts == 1 => {
+                reader.first_part(id).ok_or(None)
+            }
             _ => Err(None),
         }
     }
@@ -250,7 +307,8 @@ impl Registry {
         }
     }
 
-    /// Decodes the value, of the type at this position, that all the bytes spell, within the default limits.
+    /// Decodes the value, of the type at this position, that all the bytes spell, within the
+    /// default limits.
     ///
     /// # Errors
     /// `UnknownType`, `Value` with the reason and the place, `Memory`.
@@ -262,29 +320,52 @@ impl Registry {
     ///
     /// # Errors
     /// As [`decode`](Registry::decode), and `LimitOutOfRange`.
-    pub fn decode_within(&self, id: TypeId, bytes: &[u8], limits: Limits) -> Result<Value<'_>, Error> {
-        let Limits { depth, bytes: limit, memory } = limits;
+    pub fn decode_within(
+        &self,
+        id: TypeId,
+        bytes: &[u8],
+        limits: Limits,
+    ) -> Result<Value<'_>, Error> {
+        let Limits {
+            depth,
+            bytes: limit,
+            memory,
+        } = limits;
         let call = |nodes, node_room, pool, pool_room, answer: &mut Answer| {
-            // SAFETY: the registry is open and the lock is shared; the slice and the places are this call's.
+            // SAFETY: the registry is open and the lock is shared; the slice and the places are
+            // this call's.
             self.reading(|handle| unsafe {
                 sys::scaleview_decode_nodes(
-                    handle, id, depth, limit, memory, bytes.as_ptr(), bytes.len(), nodes, node_room, pool, pool_room, answer,
+                    handle,
+                    id,
+                    depth,
+                    limit,
+                    memory,
+                    bytes.as_ptr(),
+                    bytes.len(),
+                    nodes,
+                    node_room,
+                    pool,
+                    pool_room,
+                    answer,
                 )
             })
         };
-        // Most values have fewer nodes than a third of their bytes, and all have at most so many bytes in their pool.
+        // Most values have fewer nodes than bytes, and all have at most as many bytes in their
+        // pool.
         let most = usize::try_from(limit).map_or(bytes.len(), |limit| bytes.len().min(limit));
-        let guess = (most / 3 + 8, most);
+        let guess = (most / 8 * 5 + 8, most);
         // SAFETY: the header promises what `nodes` wants.
         let (nodes, pool) = unsafe { buffer::nodes(guess, call) }.map_err(Error::of_type(id))?;
         Value::new(self, nodes, pool)
     }
 
-    /// Returns the JSON of the value, of the type at this position, that all the bytes spell, within the default limits.
+    /// Returns the JSON of the value, of the type at this position, that all the bytes spell,
+    /// within the default limits.
     ///
-    /// The text nests at most `2 * (depth + 1)` arrays and objects, which is 130 by default. `serde_json::from_str` reads 127
-    /// levels, so it reads all values of a depth up to 62; for deeper ones give it
-    /// `serde_json::Deserializer::disable_recursion_limit`.
+    /// The text nests at most `2 * (depth + 1)` arrays and objects, which is 130 by default.
+    /// `serde_json::from_str` reads 127 levels, so it reads all values of a depth up to 62; for
+    /// deeper ones give it `serde_json::Deserializer::disable_recursion_limit`.
     ///
     /// # Errors
     /// As [`decode`](Registry::decode).
@@ -296,19 +377,42 @@ impl Registry {
     ///
     /// # Errors
     /// As [`decode`](Registry::decode), and `LimitOutOfRange`.
-    pub fn decode_json_within(&self, id: TypeId, bytes: &[u8], limits: Limits) -> Result<String, Error> {
-        let Limits { depth, bytes: limit, memory } = limits;
+    pub fn decode_json_within(
+        &self,
+        id: TypeId,
+        bytes: &[u8],
+        limits: Limits,
+    ) -> Result<String, Error> {
+        let Limits {
+            depth,
+            bytes: limit,
+            memory,
+        } = limits;
         let call = |out, room, answer: &mut Answer| {
-            // SAFETY: the registry is open and the lock is shared; the slice and the places are this call's.
+            // SAFETY: the registry is open and the lock is shared; the slice and the places are
+            // this call's.
             self.reading(|handle| unsafe {
-                sys::scaleview_decode(handle, id, depth, limit, memory, bytes.as_ptr(), bytes.len(), out, room, answer)
+                sys::scaleview_decode(
+                    handle,
+                    id,
+                    depth,
+                    limit,
+                    memory,
+                    bytes.as_ptr(),
+                    bytes.len(),
+                    out,
+                    room,
+                    answer,
+                )
             })
         };
         // SAFETY: the header promises what `text` wants.
-        unsafe { buffer::text(json_guess(limit.min(bytes.len() as u64)), call) }.map_err(Error::of_type(id))
+        unsafe { buffer::text(json_guess(limit.min(bytes.len() as u64)), call) }
+            .map_err(Error::of_type(id))
     }
 
-    /// Encodes a value of the type at this position: a decoded [`Value`], a part of one, or an [`Item`](crate::Item).
+    /// Encodes a value of the type at this position: a decoded [`Value`], a part of one, or an
+    /// [`Item`](crate::Item).
     ///
     /// ```
     /// # use scaleview::{Error, Item, Registry};
@@ -321,7 +425,8 @@ impl Registry {
     /// ```
     ///
     /// # Errors
-    /// `UnknownType`, `Node` with the reason and the node, `UnknownField` and `MissingField` for an item, `Memory`.
+    /// `UnknownType`, `Node` with the reason and the node, `UnknownField` and `MissingField` for an
+    /// item, `Memory`.
     pub fn encode<'a>(&self, id: TypeId, source: impl Into<Source<'a>>) -> Result<Vec<u8>, Error> {
         self.encode_within(id, source, Limits::new())
     }
@@ -345,13 +450,30 @@ impl Registry {
         }
     }
 
-    fn encode_nodes(&self, id: TypeId, nodes: &[Node], pool: &[u8], limits: Limits) -> Result<Vec<u8>, Error> {
+    fn encode_nodes(
+        &self,
+        id: TypeId,
+        nodes: &[Node],
+        pool: &[u8],
+        limits: Limits,
+    ) -> Result<Vec<u8>, Error> {
         let Limits { depth, memory, .. } = limits;
         let call = |out, room, answer: &mut Answer| {
-            // SAFETY: the registry is open and the lock is shared; the slices and the places are this call's.
+            // SAFETY: the registry is open and the lock is shared; the slices and the places are
+            // this call's.
             self.reading(|handle| unsafe {
                 sys::scaleview_encode_nodes(
-                    handle, id, depth, memory, nodes.as_ptr(), nodes.len(), pool.as_ptr(), pool.len(), out, room, answer,
+                    handle,
+                    id,
+                    depth,
+                    memory,
+                    nodes.as_ptr(),
+                    nodes.len(),
+                    pool.as_ptr(),
+                    pool.len(),
+                    out,
+                    room,
+                    answer,
                 )
             })
         };
@@ -360,7 +482,8 @@ impl Registry {
         unsafe { buffer::bytes(guess, call) }.map_err(Error::of_type(id))
     }
 
-    /// Starts a value of the type at this position whose bytes come in pieces, in a session that borrows the registry.
+    /// Starts a value of the type at this position whose bytes come in pieces, in a session that
+    /// borrows the registry.
     ///
     /// # Errors
     /// `UnknownType`, `LimitOutOfRange`, `Memory`.
@@ -368,23 +491,30 @@ impl Registry {
         Session::over(self, id, limits)
     }
 
-    /// Starts a value as [`start`](Registry::start) does, in a session that shares the registry and may be kept anywhere.
+    /// Starts a value as [`start`](Registry::start) does, in a session that shares the registry and
+    /// may be kept anywhere.
     ///
     /// # Errors
     /// As [`start`](Registry::start).
-    pub fn start_owned(self: &Arc<Self>, id: TypeId, limits: Limits) -> Result<OwnedSession, Error> {
+    pub fn start_owned(
+        self: &Arc<Self>,
+        id: TypeId,
+        limits: Limits,
+    ) -> Result<OwnedSession, Error> {
         OwnedSession::over(Arc::clone(self), id, limits)
     }
 }
 
 /// Returns a likely size of the JSON of so many bytes.
 pub(crate) fn json_guess(bytes: u64) -> usize {
-    usize::try_from(bytes.saturating_mul(4)).map_or(usize::MAX, |bytes| bytes.saturating_add(128))
+    usize::try_from(bytes.saturating_mul(8)).map_or(usize::MAX, |bytes| bytes.saturating_add(128))
 }
 
 impl fmt::Debug for Registry {
     fn fmt(&self, f: &mut fmt::Formatter<'_>) -> fmt::Result {
-        let Registry { len, end, version, .. } = self;
+        let Registry {
+            len, end, version, ..
+        } = self;
         f.debug_struct("Registry")
             .field("len", len)
             .field("end", end)
@@ -396,7 +526,8 @@ impl fmt::Debug for Registry {
 impl Drop for Registry {
     fn drop(&mut self) {
         let raw = self.raw.get_mut().unwrap_or_else(PoisonError::into_inner);
-        // SAFETY: nothing else has the registry, and no call follows. A session that was forgotten keeps it open.
+        // SAFETY: nothing else has the registry, and no call follows. A session that was forgotten
+        // keeps it open.
         unsafe { sys::scaleview_close(&mut raw.0) };
     }
 }

@@ -26,9 +26,10 @@ pub enum Progress {
 /// The library's handle of a session. Every call is given its place, those that only report too.
 struct Raw(UnsafeCell<Handle>);
 
-// SAFETY: the header ties no handle to a thread. "Every other call changes its handles, and the count of sessions that a
-// registry keeps without a lock: it must be the only one on this registry and its sessions while it runs." All calls on a
-// session are such, and are made in `Registry::changing`, which lets no other call on the registry or its sessions run.
+// SAFETY: the header ties no handle to a thread. "Every other call changes its handles, and the
+// count of sessions that a registry keeps without a lock: it must be the only one on this registry
+// and its sessions while it runs." All calls on a session are such, and are made in
+// `Registry::changing`, which lets no other call on the registry or its sessions run.
 unsafe impl Send for Raw {}
 // SAFETY: as above. The cell is reached in `Registry::changing` alone.
 unsafe impl Sync for Raw {}
@@ -47,7 +48,8 @@ use sealed::Keeps;
 
 /// A value in progress, as [`Session`] and [`OwnedSession`] are. It is freed when it is dropped.
 ///
-/// Sessions of one registry may be on several threads. Their calls wait for one another, and for calls on the registry.
+/// Sessions of one registry may be on several threads. Their calls wait for one another, and for
+/// calls on the registry.
 pub struct AnySession<R: Keeps> {
     raw: Raw,
     registry: R,
@@ -69,7 +71,8 @@ pub struct AnySession<R: Keeps> {
 /// ```
 pub type Session<'r> = AnySession<&'r Registry>;
 
-/// A value in progress, over a registry that it shares: a struct may have both, and a thread may take it along.
+/// A value in progress, over a registry that it shares: a struct may have both, and a thread may
+/// take it along.
 ///
 /// ```
 /// # fn main() -> Result<(), scaleview::Error> {
@@ -91,14 +94,29 @@ pub type OwnedSession = AnySession<Arc<Registry>>;
 
 impl<R: Keeps> AnySession<R> {
     pub(crate) fn over(registry: R, id: TypeId, limits: Limits) -> Result<AnySession<R>, Error> {
-        let Limits { depth, bytes, memory } = limits;
-        let (mut handle, mut answer) = (Handle { inside: std::ptr::null_mut() }, Answer::default());
+        let Limits {
+            depth,
+            bytes,
+            memory,
+        } = limits;
+        let (mut handle, mut answer) = (
+            Handle {
+                inside: std::ptr::null_mut(),
+            },
+            Answer::default(),
+        );
         let code = registry.changing(|open| {
-            // SAFETY: the registry is open, and this call has it alone; the places are this call's, and the handle is null.
-            unsafe { sys::scaleview_start(open, id, depth, bytes, memory, &mut handle, &mut answer) }
+            // SAFETY: the registry is open, and this call has it alone; the places are this call's,
+            // and the handle is null.
+            unsafe {
+                sys::scaleview_start(open, id, depth, bytes, memory, &mut handle, &mut answer)
+            }
         });
         match code {
-            sys::SCALEVIEW_OK => Ok(AnySession { raw: Raw(UnsafeCell::new(handle)), registry }),
+            sys::SCALEVIEW_OK => Ok(AnySession {
+                raw: Raw(UnsafeCell::new(handle)),
+                registry,
+            }),
             _ => Err(Error::of_type(id)(answer)),
         }
     }
@@ -116,16 +134,20 @@ impl<R: Keeps> AnySession<R> {
     /// Takes the next piece, which may be empty. A session that has answered keeps its answer.
     ///
     /// # Errors
-    /// `Value` with the reason and the place in all pieces, `Memory`. Every later call returns the same.
+    /// `Value` with the reason and the place in all pieces, `Memory`. Every later call returns the
+    /// same.
     pub fn feed(&mut self, piece: &[u8]) -> Result<Progress, Error> {
         let mut answer = Answer::default();
-        // SAFETY: the handle is a session's, and this call has it alone; the slice and the place are this call's.
+        // SAFETY: the handle is a session's, and this call has it alone; the slice and the place
+        // are this call's.
         let code = self.changing(|session| unsafe {
             sys::scaleview_feed(session, piece.as_ptr(), piece.len(), &mut answer)
         });
         match code {
             sys::SCALEVIEW_MORE => Ok(Progress::More),
-            sys::SCALEVIEW_OK => Ok(Progress::Done { used: answer.length }),
+            sys::SCALEVIEW_OK => Ok(Progress::Done {
+                used: answer.length,
+            }),
             _ => Err(Error::of(answer)),
         }
     }
@@ -137,7 +159,8 @@ impl<R: Keeps> AnySession<R> {
         answer.length
     }
 
-    /// Returns the number of bytes that were taken of all pieces, or 0 after the value was finished.
+    /// Returns the number of bytes that were taken of all pieces, or 0 after the value was
+    /// finished.
     pub fn taken(&self) -> u64 {
         self.reported(sys::scaleview_taken)
     }
@@ -152,12 +175,13 @@ impl<R: Keeps> AnySession<R> {
         self.reported(sys::scaleview_text_bytes)
     }
 
-    /// Ends the value, and returns its JSON, as [`Registry::decode_json`] does. The value is kept until the session is
-    /// dropped, so both ends may be asked for, and again after `Memory`. No piece is taken afterwards.
+    /// Ends the value, and returns its JSON, as [`Registry::decode_json`] does. The value is kept
+    /// until the session is dropped, so both ends may be asked for, and again after `Memory`. No
+    /// piece is taken afterwards.
     ///
     /// # Errors
-    /// `Value` with `Truncated` at the bytes taken if the value is incomplete, or the error that [`feed`](AnySession::feed)
-    /// returned; `Memory`.
+    /// `Value` with `Truncated` at the bytes taken if the value is incomplete, or the error that
+    /// [`feed`](AnySession::feed) returned; `Memory`.
     pub fn finish_json(&mut self) -> Result<String, Error> {
         let guess = json_guess(self.taken());
         let call = |out, room, answer: &mut Answer| {
@@ -183,7 +207,8 @@ impl<R: Keeps> AnySession<R> {
 }
 
 impl<'r> Session<'r> {
-    /// Ends the value, and returns it. It is kept until the session is dropped, so it may be asked for again.
+    /// Ends the value, and returns it. It is kept until the session is dropped, so it may be asked
+    /// for again.
     ///
     /// # Errors
     /// As [`finish_json`](AnySession::finish_json).
@@ -193,7 +218,8 @@ impl<'r> Session<'r> {
 }
 
 impl OwnedSession {
-    /// Ends the value, and returns it. It is kept until the session is dropped, so it may be asked for again.
+    /// Ends the value, and returns it. It is kept until the session is dropped, so it may be asked
+    /// for again.
     ///
     /// # Errors
     /// As [`finish_json`](AnySession::finish_json).
@@ -204,7 +230,9 @@ impl OwnedSession {
 
 impl<R: Keeps> fmt::Debug for AnySession<R> {
     fn fmt(&self, f: &mut fmt::Formatter<'_>) -> fmt::Result {
-        f.debug_struct("Session").field("taken", &self.taken()).finish_non_exhaustive()
+        f.debug_struct("Session")
+            .field("taken", &self.taken())
+            .finish_non_exhaustive()
     }
 }
 

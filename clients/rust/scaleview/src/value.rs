@@ -9,15 +9,16 @@ use std::{fmt, slice, str};
 
 /// A decoded value. It keeps its nodes and their bytes in one list each, and borrows its registry.
 ///
-/// [`root`](Value::root) is the view of the whole; what a view offers is offered here too. It displays as the JSON that
-/// [`Registry::decode_json`] returns, and so does every part.
+/// [`root`](Value::root) is the view of the whole; what a view offers is offered here too. It
+/// displays as the JSON that [`Registry::decode_json`] returns, and so does every part.
 ///
 /// ```
 /// # use scaleview::{Error, Kind, Registry};
 /// # fn main() -> Result<(), Error> {
-/// let registry = Registry::open(
-///     b"\x08\x00\x00\x00\x05\x05\x00\x04\x04\x18Option\x00\x01\x08\x10None\x00\x00\x00\x10Some\x04\x00\x00\x00\x00\x01\x00\x00",
-/// )?;
+/// # let bytes = b"\x08\x00\x00\x00\x05\x05\x00\x04\x04\x18Option\x00\x01\x08\x10None\x00\x00\x00\
+/// #     \x10Some\x04\x00\x00\x00\x00\x01\x00\x00";
+/// // enum Option { None, Some(u32) }
+/// let registry = Registry::open(bytes)?;
 /// let value = registry.decode(1, b"\x01\x2a\0\0\0")?;
 /// let (name, mut fields) = value.variant().unwrap();
 /// assert_eq!((name, fields.len()), ("Some", 1));
@@ -34,19 +35,35 @@ pub struct Value<'r> {
 }
 
 impl<'r> Value<'r> {
-    /// Reads what the registry says of the types of composites and variants, so that no later walk has to.
-    pub(crate) fn new(registry: &'r Registry, nodes: Vec<Node>, pool: Vec<u8>) -> Result<Value<'r>, Error> {
+    /// Reads what the registry says of the types of composites and variants, so that no later walk
+    /// has to.
+    pub(crate) fn new(
+        registry: &'r Registry,
+        nodes: Vec<Node>,
+        pool: Vec<u8>,
+    ) -> Result<Value<'r>, Error> {
         for node in &nodes {
-            if matches!(node.kind, sys::SCALEVIEW_NODE_FIELDS | sys::SCALEVIEW_NODE_ARM) {
+            if matches!(
+                node.kind,
+                sys::SCALEVIEW_NODE_FIELDS | sys::SCALEVIEW_NODE_ARM
+            ) {
                 registry.details(node.r#type)?;
             }
         }
-        Ok(Value { registry, nodes, pool })
+        Ok(Value {
+            registry,
+            nodes,
+            pool,
+        })
     }
 
     /// Returns the view of the whole value.
     pub fn root(&self) -> ValueRef<'_> {
-        ValueRef { registry: self.registry, nodes: &self.nodes, pool: &self.pool }
+        ValueRef {
+            registry: self.registry,
+            nodes: &self.nodes,
+            pool: &self.pool,
+        }
     }
 
     /// Returns the registry of its types.
@@ -54,58 +71,59 @@ impl<'r> Value<'r> {
         self.registry
     }
 
-    /// As [`ValueRef::type_id`].
+    /// Does what [`ValueRef::type_id`] does.
     pub fn type_id(&self) -> TypeId {
         self.root().type_id()
     }
 
-    /// As [`ValueRef::kind`].
+    /// Does what [`ValueRef::kind`] does.
     pub fn kind(&self) -> Kind<'_> {
         self.root().kind()
     }
 
-    /// As [`ValueRef::children`].
+    /// Does what [`ValueRef::children`] does.
     pub fn children(&self) -> Children<'_> {
         self.root().children()
     }
 
-    /// As [`ValueRef::child`].
+    /// Does what [`ValueRef::child`] does.
     pub fn child(&self, position: usize) -> Option<ValueRef<'_>> {
         self.root().child(position)
     }
 
-    /// As [`ValueRef::fields`].
+    /// Does what [`ValueRef::fields`] does.
     pub fn fields(&self) -> Fields<'_> {
         self.root().fields()
     }
 
-    /// As [`ValueRef::get`].
+    /// Does what [`ValueRef::get`] does.
     pub fn get(&self, name: &str) -> Option<ValueRef<'_>> {
         self.root().get(name)
     }
 
-    /// As [`ValueRef::variant`].
+    /// Does what [`ValueRef::variant`] does.
     pub fn variant(&self) -> Option<(&str, Children<'_>)> {
         self.root().variant()
     }
 
-    /// As [`ValueRef::as_u128`].
+    /// Does what [`ValueRef::as_u128`] does.
     pub fn as_u128(&self) -> Option<u128> {
         self.root().as_u128()
     }
 
-    /// As [`ValueRef::as_str`].
+    /// Does what [`ValueRef::as_str`] does.
     pub fn as_str(&self) -> Option<&str> {
         self.root().as_str()
     }
 
-    /// As [`ValueRef::as_bytes`].
+    /// Does what [`ValueRef::as_bytes`] does.
     pub fn as_bytes(&self) -> Option<&[u8]> {
         self.root().as_bytes()
     }
 }
 
-/// Two values are equal if their nodes and bytes are, types included; the registries aren't compared.
+/// Two values are equal if their nodes and bytes are, types included; the registries aren't
+/// compared.
 impl PartialEq for Value<'_> {
     fn eq(&self, other: &Value<'_>) -> bool {
         self.nodes == other.nodes && self.pool == other.pool
@@ -185,14 +203,18 @@ impl<'a> ValueRef<'a> {
     fn bytes(self, node: Node) -> &'a [u8] {
         let at = usize::try_from(node.low).unwrap_or(usize::MAX);
         let length = usize::try_from(node.high).unwrap_or(usize::MAX);
-        self.pool.get(at..).and_then(|rest| rest.get(..length)).unwrap_or_default()
+        self.pool
+            .get(at..)
+            .and_then(|rest| rest.get(..length))
+            .unwrap_or_default()
     }
 
     /// Returns what it is.
     pub fn kind(self) -> Kind<'a> {
         let node = self.node();
         let number = u128::from(node.high) << 64 | u128::from(node.low);
-        // The library promises that characters are scalar values, texts UTF-8, and wide integers 32 bytes.
+        // The library promises that characters are scalar values, texts UTF-8, and wide integers 32
+        // bytes.
         match node.kind {
             sys::SCALEVIEW_NODE_BOOL => Kind::Bool(node.low != 0),
             sys::SCALEVIEW_NODE_CHAR => {
@@ -202,7 +224,9 @@ impl<'a> ValueRef<'a> {
             sys::SCALEVIEW_NODE_SIGNED => Kind::Signed(number as i128),
             sys::SCALEVIEW_NODE_COMPACT => Kind::Compact(number),
             sys::SCALEVIEW_NODE_COUNT => Kind::Empties(node.low as u32),
-            sys::SCALEVIEW_NODE_TEXT => Kind::Text(str::from_utf8(self.bytes(node)).unwrap_or_default()),
+            sys::SCALEVIEW_NODE_TEXT => {
+                Kind::Text(str::from_utf8(self.bytes(node)).unwrap_or_default())
+            }
             sys::SCALEVIEW_NODE_BYTES => Kind::Bytes(self.bytes(node)),
             sys::SCALEVIEW_NODE_WIDE => Kind::Wide(self.bytes(node).try_into().unwrap_or_default()),
             sys::SCALEVIEW_NODE_FIELDS => Kind::Fields,
@@ -212,13 +236,20 @@ impl<'a> ValueRef<'a> {
         }
     }
 
-    /// Returns its parts: the fields of a composite, a tuple or a variant, or the elements of a list. Others have none.
+    /// Returns its parts: the fields of a composite, a tuple or a variant, or the elements of a
+    /// list. Others have none.
     pub fn children(self) -> Children<'a> {
-        let rest = ValueRef { nodes: self.nodes.get(1..).unwrap_or_default(), ..self };
-        Children { rest, left: self.node().children }
+        let rest = ValueRef {
+            nodes: self.nodes.get(1..).unwrap_or_default(),
+            ..self
+        };
+        Children {
+            rest,
+            left: self.node().children,
+        }
     }
 
-    /// Returns the part at this position, which all parts before it are passed for.
+    /// Returns the part at this position. It passes all parts before it.
     pub fn child(self, position: usize) -> Option<ValueRef<'a>> {
         self.children().nth(position)
     }
@@ -240,13 +271,29 @@ impl<'a> ValueRef<'a> {
     /// Returns the fields of a composite, a tuple or a variant with their names. Others have none.
     pub fn fields(self) -> Fields<'a> {
         let list = self.list();
-        let children = if list.is_some() { self.children() } else { Children { rest: self, left: 0 } };
-        Fields { names: list.map_or([].as_slice(), |list| list.fields.as_slice()).iter(), children }
+        let children = if list.is_some() {
+            self.children()
+        } else {
+            Children {
+                rest: self,
+                left: 0,
+            }
+        };
+        Fields {
+            names: list
+                .map_or([].as_slice(), |list| list.fields.as_slice())
+                .iter(),
+            children,
+        }
     }
 
     /// Returns the field of this name, of a composite or of a variant.
     pub fn get(self, name: &str) -> Option<ValueRef<'a>> {
-        let position = self.list()?.fields.iter().position(|field| field.name() == Some(name))?;
+        let position = self
+            .list()?
+            .fields
+            .iter()
+            .position(|field| field.name() == Some(name))?;
         self.child(position)
     }
 
@@ -256,7 +303,10 @@ impl<'a> ValueRef<'a> {
         if node.kind != sys::SCALEVIEW_NODE_ARM {
             return None;
         }
-        self.details()?.variants.get(node.arm as usize).map(|variant| variant.name())
+        self.details()?
+            .variants
+            .get(node.arm as usize)
+            .map(|variant| variant.name())
     }
 
     /// Returns the variant's name and its fields.
@@ -266,19 +316,33 @@ impl<'a> ValueRef<'a> {
 
     /// Returns a boolean.
     pub fn as_bool(self) -> Option<bool> {
-        if let Kind::Bool(is) = self.kind() { Some(is) } else { None }
+        if let Kind::Bool(is) = self.kind() {
+            Some(is)
+        } else {
+            None
+        }
     }
 
     /// Returns a character.
     pub fn as_char(self) -> Option<char> {
-        if let Kind::Char(c) = self.kind() { Some(c) } else { None }
+        if let Kind::Char(c) = self.kind() {
+            Some(c)
+        } else {
+            None
+        }
     }
 
-    /// Returns an unsigned or compact integer, or a signed one that isn't negative, of at most 128 bits.
+    /// Returns an integer of any width, if it isn't negative and has at most 128 bits.
     pub fn as_u128(self) -> Option<u128> {
         match self.kind() {
             Kind::Unsigned(number) | Kind::Compact(number) => Some(number),
             Kind::Signed(number) => u128::try_from(number).ok(),
+            Kind::Wide(bytes) => {
+                let (low, high) = bytes.split_first_chunk::<16>()?;
+                high.iter()
+                    .all(|byte| *byte == 0)
+                    .then_some(u128::from_le_bytes(*low))
+            }
             _ => None,
         }
     }
@@ -294,12 +358,20 @@ impl<'a> ValueRef<'a> {
 
     /// Returns a text.
     pub fn as_str(self) -> Option<&'a str> {
-        if let Kind::Text(text) = self.kind() { Some(text) } else { None }
+        if let Kind::Text(text) = self.kind() {
+            Some(text)
+        } else {
+            None
+        }
     }
 
     /// Returns a sequence or an array of u8.
     pub fn as_bytes(self) -> Option<&'a [u8]> {
-        if let Kind::Bytes(bytes) = self.kind() { Some(bytes) } else { None }
+        if let Kind::Bytes(bytes) = self.kind() {
+            Some(bytes)
+        } else {
+            None
+        }
     }
 }
 
@@ -331,7 +403,10 @@ impl<'a> Iterator for Children<'a> {
 
     fn next(&mut self) -> Option<ValueRef<'a>> {
         self.left = self.left.checked_sub(1)?;
-        let (nodes, rest) = self.rest.nodes.split_at_checked(size_of(self.rest.nodes.first()?))?;
+        let (nodes, rest) = self
+            .rest
+            .nodes
+            .split_at_checked(size_of(self.rest.nodes.first()?))?;
         self.rest.nodes = rest;
         Some(ValueRef { nodes, ..self.rest })
     }

@@ -3,7 +3,9 @@
 mod common;
 
 use common::*;
-use scaleview::{Error, Kind, Limits, NodeReason, Progress, Registry, RegistryReason, Session, ValueReason};
+use scaleview::{
+    Error, Kind, Limits, NodeReason, Progress, Registry, RegistryReason, Session, ValueReason,
+};
 
 fn value_error(reason: ValueReason, place: u64) -> Error {
     Error::Value { reason, place }
@@ -35,11 +37,20 @@ fn errors_have_reason_and_place() {
     assert_eq!(session.feed(b"\x00"), Err(truncated));
     let deep = Limits::new().depth(1025);
     assert_eq!(registry.start(0, deep).err(), Some(Error::LimitOutOfRange));
-    assert_eq!(registry.decode_within(0, b"\x01\x00", deep), Err(Error::LimitOutOfRange));
+    assert_eq!(
+        registry.decode_within(0, b"\x01\x00", deep),
+        Err(Error::LimitOutOfRange)
+    );
     let reason = RegistryReason::IdOutOfPlace;
-    assert_eq!(Registry::open(b"\x04\x04").err(), Some(Error::Registry { reason, place: 1 }));
+    assert_eq!(
+        Registry::open(b"\x04\x04").err(),
+        Some(Error::Registry { reason, place: 1 })
+    );
     let dangling = Error::UnknownReference { from: 0, to: 1 };
-    assert_eq!(Registry::open(b"\x04\x00\x00\x00\x02\x04\x00").err(), Some(dangling));
+    assert_eq!(
+        Registry::open(b"\x04\x00\x00\x00\x02\x04\x00").err(),
+        Some(dangling)
+    );
 }
 
 #[test]
@@ -50,7 +61,10 @@ fn an_unknown_type_is_named() {
     assert_eq!(registry.decode(13, &[0; 2000]), Err(unknown));
     assert_eq!(registry.decode_json(13, b"\x01"), Err(unknown));
     assert_eq!(registry.encode(13, &scaleview::Item::Unit), Err(unknown));
-    assert_eq!(registry.encode(13, &registry.decode(0, b"\x01\x00").unwrap()), Err(unknown));
+    assert_eq!(
+        registry.encode(13, &registry.decode(0, b"\x01\x00").unwrap()),
+        Err(unknown)
+    );
     assert_eq!(registry.type_line(13), Err(unknown));
     assert_eq!(registry.start(13, Limits::new()).err(), Some(unknown));
     assert!(registry.get(13).is_none());
@@ -59,12 +73,30 @@ fn an_unknown_type_is_named() {
 #[test]
 fn errors_are_told_as_the_command_does() {
     let told = [
-        (Error::Registry { reason: RegistryReason::BadOption, place: 9 }, "registry: BadOption at 9"),
-        (Error::UnknownReference { from: 0, to: 1 }, "check: UnknownType 1 in type 0"),
+        (
+            Error::Registry {
+                reason: RegistryReason::BadOption,
+                place: 9,
+            },
+            "registry: BadOption at 9",
+        ),
+        (
+            Error::UnknownReference { from: 0, to: 1 },
+            "check: UnknownType 1 in type 0",
+        ),
         (Error::UnknownType { id: 13 }, "type: UnknownType 13"),
-        (value_error(ValueReason::Truncated, 1), "value: Truncated at 1"),
+        (
+            value_error(ValueReason::Truncated, 1),
+            "value: Truncated at 1",
+        ),
         (Error::Memory, "memory"),
-        (Error::Node { reason: NodeReason::WrongKind, index: 3 }, "node: WrongKind at 3"),
+        (
+            Error::Node {
+                reason: NodeReason::WrongKind,
+                index: 3,
+            },
+            "node: WrongKind at 3",
+        ),
     ];
     for (error, line) in told {
         assert_eq!(error.to_string(), line);
@@ -75,9 +107,24 @@ fn errors_are_told_as_the_command_does() {
 
 #[test]
 fn the_numbers_stay() {
-    assert_eq!((RegistryReason::Truncated.code(), RegistryReason::TrailingBytes.code()), (101, 111));
-    assert_eq!((ValueReason::Truncated.code(), ValueReason::TrailingBytes.code()), (301, 313));
-    assert_eq!((NodeReason::TooDeep.code(), NodeReason::BadText.code()), (401, 409));
+    assert_eq!(
+        (
+            RegistryReason::Truncated.code(),
+            RegistryReason::TrailingBytes.code()
+        ),
+        (101, 111)
+    );
+    assert_eq!(
+        (
+            ValueReason::Truncated.code(),
+            ValueReason::TrailingBytes.code()
+        ),
+        (301, 313)
+    );
+    assert_eq!(
+        (NodeReason::TooDeep.code(), NodeReason::BadText.code()),
+        (401, 409)
+    );
 }
 
 #[test]
@@ -99,40 +146,80 @@ fn metadata_is_recognised() {
         let bytes = [b"meta".as_slice(), &[version], U16, b"\xff"].concat();
         let registry = Registry::open(&bytes).unwrap();
         assert_eq!(registry.type_line(0), Ok("0 Sized u16 \"\"\n".to_string()));
-        assert_eq!((registry.version(), registry.end()), (Some(u32::from(version)), 12));
+        assert_eq!(
+            (registry.version(), registry.end()),
+            (Some(u32::from(version)), 12)
+        );
     }
     let alone = Registry::open(U16).unwrap();
-    assert_eq!((alone.version(), alone.end(), alone.len(), alone.is_empty()), (None, 7, 1, false));
+    assert_eq!(
+        (alone.version(), alone.end(), alone.len(), alone.is_empty()),
+        (None, 7, 1, false)
+    );
     let (wrong, raw) = (RegistryReason::WrongVersion, RegistryReason::IdOutOfPlace);
-    assert_eq!(Registry::open(b"meta\x10").err(), Some(Error::Registry { reason: wrong, place: 4 }));
-    assert_eq!(Registry::open_raw(b"meta\x0e").err(), Some(Error::Registry { reason: raw, place: 2 }));
-    let none = Error::Registry { reason: RegistryReason::NotMetadata, place: 0 };
+    assert_eq!(
+        Registry::open(b"meta\x10").err(),
+        Some(Error::Registry {
+            reason: wrong,
+            place: 4
+        })
+    );
+    assert_eq!(
+        Registry::open_raw(b"meta\x0e").err(),
+        Some(Error::Registry {
+            reason: raw,
+            place: 2
+        })
+    );
+    let none = Error::Registry {
+        reason: RegistryReason::NotMetadata,
+        place: 0,
+    };
     assert_eq!(Registry::open_metadata(U16).err(), Some(none));
 }
 
-/// `serde_json::from_str` reads 127 levels, so the documents promise it for a depth of 62 and not for the default of 64.
+/// `serde_json::from_str` reads 127 levels, so the documents promise it for a depth of 62 and not
+/// for the default of 64.
 #[test]
 fn a_text_nests_twice_as_deep_as_its_value() {
     let registry = Registry::open(CHAIN).unwrap();
     for depth in [0, 62, 64, 1024] {
-        let text = registry.decode_json_within(0, &chain(depth), Limits::new().depth(depth as u16)).unwrap();
-        let levels = text.bytes().filter(|byte| matches!(byte, b'[' | b'{')).count();
+        let text = registry
+            .decode_json_within(0, &chain(depth), Limits::new().depth(depth as u16))
+            .unwrap();
+        let levels = text
+            .bytes()
+            .filter(|byte| matches!(byte, b'[' | b'{'))
+            .count();
         assert_eq!(levels, 2 * (depth + 1));
     }
-    let page = std::fs::read_to_string(concat!(env!("CARGO_MANIFEST_DIR"), "/src/registry.rs")).unwrap();
+    let page =
+        std::fs::read_to_string(concat!(env!("CARGO_MANIFEST_DIR"), "/src/registry.rs")).unwrap();
     assert!(page.contains("so it reads all values of a depth up to 62"));
 }
 
 #[test]
 fn runs_of_bytes_are_shown_and_counted() {
     let registry = Registry::open(BYTES).unwrap();
-    assert_eq!(registry.decode_json(1, b"\x0c\x01\x02\xff"), Ok("\"0x0102ff\"".to_string()));
-    assert_eq!(registry.decode(1, b"\x0c\x01\x02\xff").unwrap().as_bytes(), Some(b"\x01\x02\xff".as_slice()));
+    assert_eq!(
+        registry.decode_json(1, b"\x0c\x01\x02\xff"),
+        Ok("\"0x0102ff\"".to_string())
+    );
+    assert_eq!(
+        registry.decode(1, b"\x0c\x01\x02\xff").unwrap().as_bytes(),
+        Some(b"\x01\x02\xff".as_slice())
+    );
     let mut session = registry.start(1, Limits::new()).unwrap();
     assert_eq!(session.feed(b"\x0c\x01\x02"), Ok(Progress::More));
-    assert_eq!((session.taken(), session.nodes(), session.text_bytes()), (3, 0, 2));
+    assert_eq!(
+        (session.taken(), session.nodes(), session.text_bytes()),
+        (3, 0, 2)
+    );
     assert_eq!(session.feed(b"\xff"), Ok(Progress::Done { used: 1 }));
-    assert_eq!((session.taken(), session.nodes(), session.text_bytes()), (4, 1, 3));
+    assert_eq!(
+        (session.taken(), session.nodes(), session.text_bytes()),
+        (4, 1, 3)
+    );
 }
 
 #[test]
@@ -141,16 +228,28 @@ fn a_limit_of_bytes_is_kept() {
     let limits = Limits::new().bytes(2);
     let mut cut = registry.start(0, limits).unwrap();
     assert_eq!(cut.feed(b"\x01\x02"), Ok(Progress::More));
-    assert_eq!(cut.finish_json(), Err(value_error(ValueReason::Truncated, 2)));
+    assert_eq!(
+        cut.finish_json(),
+        Err(value_error(ValueReason::Truncated, 2))
+    );
     let too_long = value_error(ValueReason::TooLong, 2);
     let mut session = registry.start(0, limits).unwrap();
     for _ in 0..2 {
         assert_eq!(session.feed(b"\x01\x02\x03"), Err(too_long));
-        assert_eq!((session.taken(), session.nodes(), session.text_bytes()), (2, 0, 0));
+        assert_eq!(
+            (session.taken(), session.nodes(), session.text_bytes()),
+            (2, 0, 0)
+        );
     }
     assert_eq!(session.finish(), Err(too_long));
-    assert_eq!(registry.decode_json_within(0, b"\x01\x02\x03\x04", limits), Err(too_long));
-    assert_eq!(registry.decode(0, b"\x01\x02\x00\x00").unwrap().kind(), Kind::Unsigned(513));
+    assert_eq!(
+        registry.decode_json_within(0, b"\x01\x02\x03\x04", limits),
+        Err(too_long)
+    );
+    assert_eq!(
+        registry.decode(0, b"\x01\x02\x00\x00").unwrap().kind(),
+        Kind::Unsigned(513)
+    );
 }
 
 #[test]
@@ -158,10 +257,19 @@ fn a_budget_of_memory_is_kept() {
     let registry = Registry::open(BYTES).unwrap();
     let value = [compact(10_000), vec![7; 10_000]].concat();
     let (little, enough) = (Limits::new().memory(5_000), Limits::new().memory(200_000));
-    assert_eq!(registry.decode_within(1, &value, little), Err(Error::Memory));
-    assert_eq!(registry.decode_json_within(1, &value, little), Err(Error::Memory));
+    assert_eq!(
+        registry.decode_within(1, &value, little),
+        Err(Error::Memory)
+    );
+    assert_eq!(
+        registry.decode_json_within(1, &value, little),
+        Err(Error::Memory)
+    );
     let decoded = registry.decode_within(1, &value, enough).unwrap();
-    assert_eq!(registry.encode_within(1, &decoded, little), Err(Error::Memory));
+    assert_eq!(
+        registry.encode_within(1, &decoded, little),
+        Err(Error::Memory)
+    );
     assert_eq!(registry.encode_within(1, &decoded, enough), Ok(value));
 }
 
@@ -188,12 +296,24 @@ fn long_values_are_answered_as_short_ones() {
         let mut value = [compact(count as u32), vec![7; count]].concat();
         let text = format!("\"0x{}\"", "07".repeat(count));
         assert_eq!(registry.decode_json(1, &value).as_ref(), Ok(&text));
-        assert_eq!(registry.decode(1, &value).map(|value| value.to_string()).as_ref(), Ok(&text));
+        assert_eq!(
+            registry
+                .decode(1, &value)
+                .map(|value| value.to_string())
+                .as_ref(),
+            Ok(&text)
+        );
         let end = value.len() as u64;
         value.push(0);
-        assert_eq!(registry.decode_json(1, &value), Err(value_error(ValueReason::TrailingBytes, end)));
+        assert_eq!(
+            registry.decode_json(1, &value),
+            Err(value_error(ValueReason::TrailingBytes, end))
+        );
         value.truncate(count);
-        assert_eq!(registry.decode_json(1, &value), Err(value_error(ValueReason::Truncated, count as u64)));
+        assert_eq!(
+            registry.decode_json(1, &value),
+            Err(value_error(ValueReason::Truncated, count as u64))
+        );
     }
 }
 

@@ -1,11 +1,14 @@
-//! The stored answers of the examples: each value as JSON by the library and by its nodes, whole and in pieces, and back.
+//! The stored answers of the examples: each value as JSON by the library and by its nodes, whole
+//! and in pieces, and back.
 
 use scaleview::{Limits, Registry};
 use std::fs;
 use std::path::{Path, PathBuf};
 
 fn folder(name: &str) -> PathBuf {
-    Path::new(env!("CARGO_MANIFEST_DIR")).join("../../../examples").join(name)
+    Path::new(env!("CARGO_MANIFEST_DIR"))
+        .join("../../../examples")
+        .join(name)
 }
 
 fn check_value(registry: &Registry, id: u32, bytes: &[u8], json: &str) {
@@ -24,14 +27,22 @@ fn check_value(registry: &Registry, id: u32, bytes: &[u8], json: &str) {
 fn check(name: &str, file: &str) -> usize {
     let folder = folder(name);
     let registry = Registry::open(&fs::read(folder.join(file)).unwrap()).unwrap();
-    let lines: String = registry.types().map(|one| registry.type_line(one.id()).unwrap()).collect();
+    let lines: String = registry
+        .types()
+        .map(|one| registry.type_line(one.id()).unwrap())
+        .collect();
     assert_eq!(lines, fs::read_to_string(folder.join("types.txt")).unwrap());
     let values = fs::read_to_string(folder.join("values.txt")).unwrap();
     for line in values.lines() {
         let (value, id) = line.split_once(' ').unwrap();
         let bytes = fs::read(folder.join(format!("{value}.scale"))).unwrap();
         let json = fs::read_to_string(folder.join(format!("{value}.json"))).unwrap();
-        check_value(&registry, id.parse().unwrap(), &bytes, json.trim_end_matches('\n'));
+        check_value(
+            &registry,
+            id.parse().unwrap(),
+            &bytes,
+            json.trim_end_matches('\n'),
+        );
     }
     values.lines().count()
 }

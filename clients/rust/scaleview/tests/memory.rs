@@ -45,7 +45,8 @@ fn with_allocations<T>(count: usize, call: impl FnOnce() -> T) -> T {
     result
 }
 
-/// Makes each allocation of a call fail in turn: it returns `Memory`, or does without, and at last succeeds.
+/// Makes each allocation of a call fail in turn: it returns `Memory`, or does without, and at last
+/// succeeds.
 fn check<T>(what: &str, mut call: impl FnMut() -> Result<T, Error>) {
     let mut failed = 0;
     for count in 0..1000 {
@@ -68,17 +69,36 @@ fn check<T>(what: &str, mut call: impl FnMut() -> Result<T, Error>) {
 #[test]
 fn no_memory_for_a_text_is_an_error() {
     let (short, long) = (Registry::open(U16).unwrap(), Registry::open(CHAIN).unwrap());
-    assert_eq!(with_allocations(0, || short.type_line(0)), Err(Error::Memory));
-    assert_eq!(with_allocations(0, || short.decode_json(0, b"\x01\x00")), Err(Error::Memory));
-    assert_eq!(with_allocations(0, || short.decode(0, b"\x01\x00")), Err(Error::Memory));
+    assert_eq!(
+        with_allocations(0, || short.type_line(0)),
+        Err(Error::Memory)
+    );
+    assert_eq!(
+        with_allocations(0, || short.decode_json(0, b"\x01\x00")),
+        Err(Error::Memory)
+    );
+    assert_eq!(
+        with_allocations(0, || short.decode(0, b"\x01\x00")),
+        Err(Error::Memory)
+    );
     assert_eq!(short.decode_json(0, b"\x01\x00"), Ok("1".to_string()));
     // The text has no room at first.
     let limits = Limits::new().depth(1024);
     for depth in [1000, 1024] {
         let value = chain(depth);
-        assert_eq!(with_allocations(0, || long.decode_json_within(0, &value, limits)), Err(Error::Memory));
-        assert_eq!(with_allocations(1, || long.decode_json_within(0, &value, limits)), Err(Error::Memory));
-        assert_eq!(long.decode_json_within(0, &value, limits).map(|text| text.len()), Ok(11 * depth + 10));
+        assert_eq!(
+            with_allocations(0, || long.decode_json_within(0, &value, limits)),
+            Err(Error::Memory)
+        );
+        assert_eq!(
+            with_allocations(1, || long.decode_json_within(0, &value, limits)),
+            Err(Error::Memory)
+        );
+        assert_eq!(
+            long.decode_json_within(0, &value, limits)
+                .map(|text| text.len()),
+            Ok(11 * depth + 10)
+        );
     }
 }
 
@@ -86,15 +106,29 @@ fn no_memory_for_a_text_is_an_error() {
 fn each_allocation_may_fail() {
     check("open", || Registry::open(NAMED));
     let value = named_chain(40);
-    check("decode", || Registry::open(NAMED).and_then(|registry| registry.decode(0, &value).map(|_| ())));
-    check("types", || Registry::open(NAMED)?.get(0).ok_or(Error::Memory)?.variants().map(|variants| variants.len()));
+    check("decode", || {
+        Registry::open(NAMED).and_then(|registry| registry.decode(0, &value).map(|_| ()))
+    });
+    check("types", || {
+        Registry::open(NAMED)?
+            .get(0)
+            .ok_or(Error::Memory)?
+            .variants()
+            .map(|variants| variants.len())
+    });
     let registry = Registry::open(NAMED).unwrap();
     check("decode_json", || registry.decode_json(0, &value));
     check("type_line", || registry.type_line(0));
     let decoded = registry.decode(0, &value).unwrap();
     check("encode", || registry.encode(0, &decoded));
     let end = || Item::variant("End", []);
-    let item = Item::named_variant("Next", [("a", 7.into()), ("b", Item::variant("Next", [end(), 8.into()]))]);
+    let item = Item::named_variant(
+        "Next",
+        [
+            ("a", 7.into()),
+            ("b", Item::variant("Next", [end(), 8.into()])),
+        ],
+    );
     check("encode an item", || registry.encode(0, &item));
     let mut session = registry.start(0, Limits::new()).unwrap();
     session.feed(&value).unwrap();

@@ -9,7 +9,12 @@ use std::sync::{Arc, Barrier, OnceLock};
 use std::{fs, thread};
 
 fn example(name: &str) -> Vec<u8> {
-    fs::read(Path::new(env!("CARGO_MANIFEST_DIR")).join("../../../examples").join(name)).unwrap()
+    fs::read(
+        Path::new(env!("CARGO_MANIFEST_DIR"))
+            .join("../../../examples")
+            .join(name),
+    )
+    .unwrap()
 }
 
 #[test]
@@ -25,7 +30,9 @@ fn all_may_be_sent_and_shared() {
 #[test]
 fn a_registry_moves_to_another_thread() {
     let registry = Registry::open(U16).unwrap();
-    let (text, registry) = thread::spawn(move || (registry.decode_json(0, b"\x03\x00"), registry)).join().unwrap();
+    let (text, registry) = thread::spawn(move || (registry.decode_json(0, b"\x03\x00"), registry))
+        .join()
+        .unwrap();
     assert_eq!(text, Ok("3".to_string()));
     assert_eq!(registry.decode_json(0, b"\x04\x00"), Ok("4".to_string()));
 }
@@ -33,8 +40,14 @@ fn a_registry_moves_to_another_thread() {
 #[test]
 fn a_registry_may_be_a_static() {
     static REGISTRY: OnceLock<Registry> = OnceLock::new();
-    let text = |byte| REGISTRY.get_or_init(|| Registry::open(U16).unwrap()).decode_json(0, &[byte, 0]);
-    let threads: Vec<_> = (0..4).map(|byte| thread::spawn(move || text(byte))).collect();
+    let text = |byte| {
+        REGISTRY
+            .get_or_init(|| Registry::open(U16).unwrap())
+            .decode_json(0, &[byte, 0])
+    };
+    let threads: Vec<_> = (0..4)
+        .map(|byte| thread::spawn(move || text(byte)))
+        .collect();
     for (number, thread) in threads.into_iter().enumerate() {
         assert_eq!(thread.join().unwrap(), Ok(number.to_string()));
     }
@@ -49,7 +62,10 @@ struct Reader {
 #[test]
 fn a_struct_owns_a_registry_and_its_session() {
     let registry = Arc::new(Registry::open(U16).unwrap());
-    let mut reader = Reader { session: registry.start_owned(0, Limits::new()).unwrap(), registry };
+    let mut reader = Reader {
+        session: registry.start_owned(0, Limits::new()).unwrap(),
+        registry,
+    };
     assert_eq!(reader.session.feed(b"\x07"), Ok(Progress::More));
     let mut reader = thread::spawn(move || {
         assert_eq!(reader.session.feed(b"\x00"), Ok(Progress::Done { used: 1 }));
@@ -57,7 +73,10 @@ fn a_struct_owns_a_registry_and_its_session() {
     })
     .join()
     .unwrap();
-    assert_eq!(reader.session.finish().map(|value| value.to_string()), Ok("7".to_string()));
+    assert_eq!(
+        reader.session.finish().map(|value| value.to_string()),
+        Ok("7".to_string())
+    );
     // The session keeps the registry open.
     drop(reader.registry);
     assert_eq!(reader.session.registry().len(), 1);
@@ -73,12 +92,19 @@ fn make(registry: &Registry, id: u32, bytes: &[u8], step: usize) -> [String; 3] 
     assert_eq!(session.taken(), bytes.len() as u64);
     let value = registry.decode(id, bytes).unwrap();
     assert_eq!(registry.encode(id, &value).unwrap(), bytes);
-    [session.finish().unwrap().to_string(), value.to_string(), registry.decode_json(id, bytes).unwrap()]
+    [
+        session.finish().unwrap().to_string(),
+        value.to_string(),
+        registry.decode_json(id, bytes).unwrap(),
+    ]
 }
 
 #[test]
 fn four_threads_have_sessions_of_one_registry() {
-    let (metadata, block) = (example("runtime/metadata.scale"), example("runtime/events_block.scale"));
+    let (metadata, block) = (
+        example("runtime/metadata.scale"),
+        example("runtime/events_block.scale"),
+    );
     let wanted = String::from_utf8(example("runtime/events_block.json")).unwrap();
     let registry = Registry::open(&metadata).unwrap();
     let begun = Barrier::new(4);
@@ -98,14 +124,15 @@ fn four_threads_have_sessions_of_one_registry() {
 #[test]
 fn a_session_is_shared_while_others_begin_and_end() {
     let registry = Registry::open(U16).unwrap();
-    let shared = registry.start(0, Limits::new()).unwrap();
+    let mut shared = registry.start(0, Limits::new()).unwrap();
+    shared.feed(b"\x07").unwrap();
     thread::scope(|scope| {
         for _ in 0..4 {
             scope.spawn(|| {
                 for _ in 0..1000 {
                     let mut own = registry.start(0, Limits::new()).unwrap();
                     own.feed(b"\x01").unwrap();
-                    assert_eq!((shared.taken(), own.taken(), registry.len()), (0, 1, 1));
+                    assert_eq!((shared.taken(), own.taken(), registry.len()), (1, 1, 1));
                 }
             });
         }
@@ -113,7 +140,12 @@ fn a_session_is_shared_while_others_begin_and_end() {
 }
 
 fn with_stack<T: Send + 'static>(size: usize, call: impl FnOnce() -> T + Send + 'static) -> T {
-    thread::Builder::new().stack_size(size).spawn(call).unwrap().join().unwrap()
+    thread::Builder::new()
+        .stack_size(size)
+        .spawn(call)
+        .unwrap()
+        .join()
+        .unwrap()
 }
 
 /// The default depth fits into the smallest of usual stacks, musl's 128 KiB.
@@ -124,7 +156,11 @@ fn a_small_stack_is_enough_for_the_default_depth() {
             let registry = Registry::open(registry).unwrap();
             make(&registry, 0, &value, 3).map(|text| text.len())
         });
-        assert!(lengths.iter().all(|length| *length == lengths[0] && *length > 64 * 11));
+        assert!(
+            lengths
+                .iter()
+                .all(|length| *length == lengths[0] && *length > 64 * 11)
+        );
     }
 }
 
@@ -134,14 +170,27 @@ fn a_small_stack_is_enough_for_values_of_any_depth() {
     for (registry, value) in [(CHAIN, chain(1024)), (NAMED, named_chain(1024))] {
         let shown = with_stack(128 << 10, move || {
             let registry = Registry::open(registry).unwrap();
-            let value = registry.decode_within(0, &value, Limits::new().depth(1024)).unwrap();
-            registry.encode_within(0, &value, Limits::new().depth(1024)).unwrap();
+            let value = registry
+                .decode_within(0, &value, Limits::new().depth(1024))
+                .unwrap();
+            registry
+                .encode_within(0, &value, Limits::new().depth(1024))
+                .unwrap();
             value.to_string()
         });
         let text = with_stack(2 << 20, move || {
-            let (registry, value) = if shown.contains("\"a\"") { (NAMED, named_chain(1024)) } else { (CHAIN, chain(1024)) };
+            let (registry, value) = if shown.contains("\"a\"") {
+                (NAMED, named_chain(1024))
+            } else {
+                (CHAIN, chain(1024))
+            };
             let registry = Registry::open(registry).unwrap();
-            (registry.decode_json_within(0, &value, Limits::new().depth(1024)).unwrap(), shown)
+            (
+                registry
+                    .decode_json_within(0, &value, Limits::new().depth(1024))
+                    .unwrap(),
+                shown,
+            )
         });
         assert_eq!(text.0, text.1);
     }

@@ -1,23 +1,30 @@
-//! The tables of test vectors: each registry's answer and types, and each value whole and in pieces, as JSON and as nodes,
-//! and back from them.
+//! The tables of test vectors: each registry's answer and types, and each value whole and in
+//! pieces, as JSON and as nodes, and back from them.
 
 use scaleview::{Error, Limits, Progress, Registry, Value};
 use std::collections::HashMap;
 use std::path::PathBuf;
 
 fn table(name: &str) -> String {
-    let path = PathBuf::from(env!("CARGO_MANIFEST_DIR")).join("../../../crates/vectors/data").join(name);
+    let path = PathBuf::from(env!("CARGO_MANIFEST_DIR"))
+        .join("../../../crates/vectors/data")
+        .join(name);
     std::fs::read_to_string(path).expect("a table of vectors")
 }
 
 fn rows(table: &str) -> impl Iterator<Item = Vec<&str>> {
-    let lines = table.split('\n').filter(|line| !line.is_empty() && !line.starts_with('#'));
+    let lines = table
+        .split('\n')
+        .filter(|line| !line.is_empty() && !line.starts_with('#'));
     lines.map(|line| line.split('\t').collect())
 }
 
 fn bytes_of(column: &str) -> Vec<u8> {
     let digits = if column == "-" { "" } else { column };
-    (0..digits.len()).step_by(2).map(|at| u8::from_str_radix(&digits[at..at + 2], 16).expect("two digits")).collect()
+    (0..digits.len())
+        .step_by(2)
+        .map(|at| u8::from_str_radix(&digits[at..at + 2], 16).expect("two digits"))
+        .collect()
 }
 
 /// The error in the words of the tables.
@@ -34,8 +41,13 @@ fn told(error: Error) -> String {
 
 /// What is to be answered to all bytes of a registry's row: the first error, or its type lines.
 fn wanted_of(row: &[&str], len: usize) -> String {
-    let [_, prefix, _, read, check, lines] = row else { panic!("six columns") };
-    let end = read.split(' ').next().and_then(|end| end.parse::<usize>().ok());
+    let [_, prefix, _, read, check, lines] = row else {
+        panic!("six columns")
+    };
+    let end = read
+        .split(' ')
+        .next()
+        .and_then(|end| end.parse::<usize>().ok());
     match end {
         None => read.to_string(),
         Some(end) if *prefix == "none" && end < len => format!("TrailingBytes at {end}"),
@@ -45,18 +57,34 @@ fn wanted_of(row: &[&str], len: usize) -> String {
 }
 
 fn lines_of(registry: &Registry) -> String {
-    let lines = registry.types().map(|one| registry.type_line(one.id()).expect("a type"));
-    let joined = lines.map(|line| line.trim_end().to_string()).collect::<Vec<_>>().join(" / ");
-    if joined.is_empty() { "-".to_string() } else { joined }
+    let lines = registry
+        .types()
+        .map(|one| registry.type_line(one.id()).expect("a type"));
+    let joined = lines
+        .map(|line| line.trim_end().to_string())
+        .collect::<Vec<_>>()
+        .join(" / ");
+    if joined.is_empty() {
+        "-".to_string()
+    } else {
+        joined
+    }
 }
 
 /// Each type's line has its class, kind and path, and its path finds it.
 fn check_types(registry: &Registry) {
     assert_eq!(registry.types().len(), registry.len() as usize);
     for (id, one) in (0..).zip(registry.types()) {
-        assert_eq!((one.id(), registry.find_from(id, one.path().unwrap())), (id, Some(id)));
+        assert_eq!(
+            (one.id(), registry.find_from(id, one.path().unwrap())),
+            (id, Some(id))
+        );
         let line = registry.type_line(id).unwrap();
-        let kind = one.primitive().map_or(format!("{:?}", one.kind()), |primitive| format!("{primitive:?}"));
+        let kind = one
+            .primitive()
+            .map_or(format!("{:?}", one.kind()), |primitive| {
+                format!("{primitive:?}")
+            });
         let wanted = format!("{id} {:?} {} ", one.class(), kind.to_lowercase());
         assert!(line.starts_with(&wanted), "{line} {wanted}");
     }
@@ -68,7 +96,11 @@ fn registries_are_answered() {
     for row in rows(&table("registries.tsv")) {
         let bytes = bytes_of(row[2]);
         let metadata = row[1] == "metadata";
-        let opened = if metadata { Registry::open_metadata(&bytes) } else { Registry::open_raw(&bytes) };
+        let opened = if metadata {
+            Registry::open_metadata(&bytes)
+        } else {
+            Registry::open_raw(&bytes)
+        };
         if let Ok(registry) = &opened {
             check_types(registry);
         }
@@ -132,8 +164,20 @@ impl<'a> Row<'a> {
     /// A value is encoded as its bytes, which are decoded as the same value.
     fn check_back(&self, registry: &Registry, value: &Value) {
         let limits = self.limits;
-        assert_eq!(registry.encode_within(self.id, value, limits).as_ref(), Ok(&self.bytes), "{}", self.name);
-        assert_eq!(registry.decode_within(self.id, &self.bytes, limits).as_ref(), Ok(value), "{}", self.name);
+        assert_eq!(
+            registry.encode_within(self.id, value, limits).as_ref(),
+            Ok(&self.bytes),
+            "{}",
+            self.name
+        );
+        assert_eq!(
+            registry
+                .decode_within(self.id, &self.bytes, limits)
+                .as_ref(),
+            Ok(value),
+            "{}",
+            self.name
+        );
     }
 
     fn check_pieces(&self, registry: &Registry, step: usize) {
@@ -149,7 +193,9 @@ impl<'a> Row<'a> {
         }
         let held = (session.taken(), session.nodes(), session.text_bytes());
         assert_eq!(held, self.held, "{} in pieces of {step}", self.name);
-        let found = session.finish().map_or_else(told, |value| value.to_string());
+        let found = session
+            .finish()
+            .map_or_else(told, |value| value.to_string());
         assert_eq!(found, self.end(), "{} in pieces of {step}", self.name);
         let found = session.finish_json().unwrap_or_else(told);
         assert_eq!(found, self.end(), "{} in pieces of {step}", self.name);
@@ -159,12 +205,16 @@ impl<'a> Row<'a> {
 #[test]
 fn values_are_answered() {
     let (registries, values) = (table("registries.tsv"), table("values.tsv"));
-    let by_name: HashMap<&str, Vec<u8>> = rows(&registries).map(|row| (row[0], bytes_of(row[2]))).collect();
+    let by_name: HashMap<&str, Vec<u8>> = rows(&registries)
+        .map(|row| (row[0], bytes_of(row[2])))
+        .collect();
     let mut count = 0;
     for row in rows(&values) {
         let registry = Registry::open_raw(&by_name[row[1]]).expect("a registry");
         let row = Row::of(&row);
-        let found = registry.decode_json_within(row.id, &row.bytes, row.limits).unwrap_or_else(told);
+        let found = registry
+            .decode_json_within(row.id, &row.bytes, row.limits)
+            .unwrap_or_else(told);
         assert_eq!(found, row.whole(), "{}", row.name);
         match registry.decode_within(row.id, &row.bytes, row.limits) {
             Ok(value) => {
