@@ -139,6 +139,26 @@ fn a_session_is_shared_while_others_begin_and_end() {
     });
 }
 
+/// The library takes a session out of its handle while it reports, so that two at a time would
+/// miss it.
+#[test]
+fn a_session_is_asked_by_four_threads() {
+    let registry = Registry::open(U16).unwrap();
+    let mut shared = registry.start(0, Limits::new()).unwrap();
+    shared.feed(b"\x07\x00").unwrap();
+    let begun = Barrier::new(4);
+    thread::scope(|scope| {
+        for _ in 0..4 {
+            scope.spawn(|| {
+                begun.wait();
+                for _ in 0..100_000 {
+                    assert_eq!((shared.taken(), shared.nodes()), (2, 1));
+                }
+            });
+        }
+    });
+}
+
 fn with_stack<T: Send + 'static>(size: usize, call: impl FnOnce() -> T + Send + 'static) -> T {
     thread::Builder::new()
         .stack_size(size)
