@@ -8,6 +8,7 @@
 #include "scaleview.h"
 #include <cstddef>
 #include <cstdint>
+#include <deque>
 #include <limits>
 #include <memory>
 #include <new>
@@ -92,17 +93,40 @@ struct limits {
 };
 
 /* A field of a composite or of an arm, or a member of a tuple. */
-struct part {
-    std::string name;
+struct field {
+    std::string_view name;
     bool has_name;
     std::uint32_t type;
 };
 
 /* An arm of a variant. */
 struct arm {
-    std::string name;
+    std::string_view name;
     std::uint8_t index;
-    std::uint32_t fields;
+    std::vector<field> fields;
+};
+
+/* What a registry says of a type. It keeps the names; the views of them stay valid when it is moved. */
+class description {
+  public:
+    type_shape shape = {};
+    std::string_view path;
+    /* The fields of a composite or the members of a tuple. */
+    std::vector<field> fields;
+    /* The arms of a variant. */
+    std::vector<arm> arms;
+
+    description() = default;
+    description(description &&) = default;
+    description &operator=(description &&) = default;
+
+  private:
+    friend class registry;
+
+    std::string_view keep(std::string name) { return names_.emplace_back(std::move(name)); }
+
+    // Its strings stay where they are when it grows or is moved.
+    std::deque<std::string> names_;
 };
 
 /* The nodes of a value, each before its children, and their bytes. */
@@ -295,29 +319,19 @@ class registry {
         });
     }
 
-    /* The field of a composite or the member of a tuple at this position. */
-    part field(std::uint32_t id, std::uint32_t position) const {
-        return part_of(id, [&](std::uint8_t *out, std::size_t room, scaleview_answer *answer) {
-            return scaleview_part(handle(), id, position, out, room, answer);
-        });
-    }
-
-    /* The arm of a variant at this position. */
-    scaleview::arm arm(std::uint32_t id, std::uint32_t position) const {
-        scaleview_answer last;
-        auto name = text_of(id, [&](std::uint8_t *out, std::size_t room, scaleview_answer *answer) {
-            const auto code = scaleview_arm(handle(), id, position, out, room, answer);
-            last = *answer;
-            return code;
-        });
-        return {std::move(name), static_cast<std::uint8_t>(last.from), static_cast<std::uint32_t>(last.at)};
-    }
-
-    /* The field, at this position, of an arm. */
-    part arm_field(std::uint32_t id, std::uint32_t arm, std::uint32_t position) const {
-        return part_of(id, [&](std::uint8_t *out, std::size_t room, scaleview_answer *answer) {
-            return scaleview_arm_field(handle(), id, arm, position, out, room, answer);
-        });
+    /* All that the registry says of a type. */
+    description describe(std::uint32_t id) const {
+        description found;
+        found.shape = type(id);
+        found.path = found.keep(path(id));
+        if (found.shape.kind == SCALEVIEW_VARIANT) {
+            for (std::uint32_t i = 0; i < found.shape.parts; i++) found.arms.push_back(arm_of(found, id, i));
+        } else {
+            found.fields = fields_of(found, id, found.shape.parts, [&](std::uint32_t i, auto out, auto room, auto answer) {
+                return scaleview_part(handle(), id, i, out, room, answer);
+            });
+        }
+        return found;
     }
 
     /* The first type with this path, from a position on. */
@@ -373,14 +387,35 @@ class registry {
         return detail::written<std::string>(64, id, call);
     }
 
-    template <typename Call> static part part_of(std::uint32_t id, Call call) {
-        scaleview_answer last;
+    /* The name that a call writes, and its answer. */
+    template <typename Call> static std::pair<std::string, scaleview_answer> named(std::uint32_t id, Call call) {
+        scaleview_answer last = {};
         auto name = text_of(id, [&](std::uint8_t *out, std::size_t room, scaleview_answer *answer) {
             const auto code = call(out, room, answer);
             last = *answer;
             return code;
         });
-        return {std::move(name), last.at == 1, last.from};
+        return {std::move(name), last};
+    }
+
+    template <typename Call>
+    static std::vector<field> fields_of(description &to, std::uint32_t id, std::uint64_t count, Call call) {
+        std::vector<field> fields;
+        for (std::uint32_t i = 0; i < count; i++) {
+            auto [name, answer] = named(id, [&](auto out, auto room, auto last) { return call(i, out, room, last); });
+            fields.push_back({to.keep(std::move(name)), answer.at == 1, answer.from});
+        }
+        return fields;
+    }
+
+    arm arm_of(description &to, std::uint32_t id, std::uint32_t position) const {
+        auto [name, answer] = named(id, [&](auto out, auto room, auto last) {
+            return scaleview_arm(handle(), id, position, out, room, last);
+        });
+        auto fields = fields_of(to, id, answer.at, [&](std::uint32_t i, auto out, auto room, auto last) {
+            return scaleview_arm_field(handle(), id, position, i, out, room, last);
+        });
+        return {to.keep(std::move(name)), static_cast<std::uint8_t>(answer.from), std::move(fields)};
     }
 
     std::shared_ptr<detail::open_registry> open_;

@@ -54,23 +54,27 @@ static void check_value(scaleview::registry &registry, std::uint32_t type, const
 
 /* Each field of a composite is the child of its node. */
 static void check_fields(const scaleview::registry &registry, std::uint32_t type, const scaleview::value &value) {
-    const auto shape = registry.type(type);
+    const auto found = registry.describe(type);
     const auto children = value.children(0);
-    check("a composite", shape.kind == SCALEVIEW_COMPOSITE && shape.parts == children.size());
-    for (std::uint32_t i = 0; i < shape.parts; i++) {
-        const auto field = registry.field(type, i);
-        check("a field", field.has_name && !field.name.empty() && value.nodes.at(children.at(i)).type == field.type);
+    check("a composite", found.shape.kind == SCALEVIEW_COMPOSITE && found.arms.empty());
+    check("its fields", found.fields.size() == children.size() && found.fields.at(0).name == "nonce");
+    for (std::size_t i = 0; i < children.size(); i++) {
+        const auto &field = found.fields.at(i);
+        check("a field", field.has_name && value.nodes.at(children.at(i)).type == field.type);
     }
-    const auto no_part = [&] { registry.field(type, shape.parts); };
-    check("no field", thrown(no_part, 0) == "code 203 UnknownPart");
 }
 
 static void check_arms(const scaleview::registry &registry) {
     const auto event = registry.find("pallet_balances::pallet::Event").value();
-    const auto transfer = registry.arm(event, 1);
-    check("an arm", transfer.name == "Transfer" && transfer.index == 1 && transfer.fields == 3);
-    check("its field", registry.arm_field(event, 1, 2).name == "amount");
-    check("its path", registry.path(event) == "pallet_balances::pallet::Event");
+    auto found = registry.describe(event);
+    // The names stay where they are.
+    const auto moved = std::move(found);
+    const auto &transfer = moved.arms.at(1);
+    check("an arm", transfer.name == "Transfer" && transfer.index == 1 && transfer.fields.size() == 3);
+    check("its field", transfer.fields.at(2).name == "amount" && moved.fields.empty());
+    check("its path", moved.path == "pallet_balances::pallet::Event" && registry.path(event) == moved.path);
+    const auto line = std::to_string(event) + " Sized variant \"" + std::string(moved.path) + "\"\n";
+    check("its line", registry.type_line(event) == line);
     check("no such path", !registry.find("no::such"));
 }
 
