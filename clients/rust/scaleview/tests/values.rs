@@ -336,10 +336,11 @@ fn a_composite_of_many_fields_is_walked_soon() {
     ]
     .concat();
     let registry = [
-        b"\x0c".as_slice(),
+        b"\x10".as_slice(),
         unit,
         b"\x04\x00\x00\x05\x03\x00",
         &composite,
+        b"\x0c\x00\x00\x02\x08\x00",
     ]
     .concat();
     let registry = Registry::open(&registry).unwrap();
@@ -352,6 +353,14 @@ fn a_composite_of_many_fields_is_walked_soon() {
     );
     assert_eq!(value.to_string().len(), 5 * (FIELDS as usize - 1) + 4);
     assert_eq!(registry.encode(2, &value), Ok(vec![42]));
+    // A thousand of them have a hundred million nodes, which a budget of memory stops early.
+    let many = [compact(1000), vec![7; 1000]].concat();
+    let limits = Limits::new().memory(1 << 24);
+    assert_eq!(registry.decode_within(3, &many, limits), Err(Error::Memory));
+    assert_eq!(
+        registry.decode_json_within(3, &many, limits),
+        Err(Error::Memory)
+    );
     assert!(begun.elapsed() < Duration::from_secs(20));
 }
 
