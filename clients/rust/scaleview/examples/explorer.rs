@@ -132,8 +132,8 @@ fn main() -> Result<()> {
     };
     let registry = Registry::open(&fs::read(metadata)?)?;
     println!(
-        "metadata {:?}: {} types, {} bytes",
-        registry.version(),
+        "metadata {}: {} types, {} bytes",
+        registry.version().unwrap_or_default(),
         registry.len(),
         registry.end()
     );

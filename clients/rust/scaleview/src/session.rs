@@ -49,7 +49,7 @@ use sealed::Keeps;
 /// A value in progress, as [`Session`] and [`OwnedSession`] are. It is freed when it is dropped.
 ///
 /// Sessions of one registry may be on several threads. Their calls wait for one another, and for
-/// calls on the registry.
+/// calls on the registry. To feed values at the same time, open a registry for each thread.
 pub struct AnySession<R: Keeps> {
     raw: Raw,
     registry: R,
