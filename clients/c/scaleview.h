@@ -30,7 +30,7 @@ extern "C" {
 #endif
 
 /* The version of this header: 10000 times the major number, 100 times the minor one, and the patch number. */
-#define SCALEVIEW_VERSION 200
+#define SCALEVIEW_VERSION 100
 
 /* The codes that a call returns. The numbers never change; new ones may be added. */
 enum scaleview_code {

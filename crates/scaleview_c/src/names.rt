@@ -9,7 +9,7 @@ use crate::text::put;
 
 /// The version of the library: ten thousand times the major number, and a hundred times the minor
 /// one, and the patch number.
-const VERSION: u32 = 200;
+const VERSION: u32 = 100;
 
 /// The names of the codes from 0 on.
 const CALLS: [&str; 7] = [
@@ -98,7 +98,7 @@ pub extern "C" fn scaleview_reason(code: u32, out: &mut [u8], answer: &mut Answe
 /// Returns the version of the library.
 #[unsafe(no_mangle)]
 pub extern "C" fn scaleview_version() -> u32
-    ensures { result ≡ 200 }
+    ensures { result ≡ 100 }
 {
     VERSION
 }

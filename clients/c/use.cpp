@@ -1,0 +1,121 @@
+/* Uses the library from C++ as a program does that finds it by pkg-config: opens metadata, decodes a value whole and in pieces,
+ * encodes it again, and looks at its types. It prints nothing if all is as it should be.
+ *
+ *   use METADATA PATH VALUE JSON
+ */
+#include <scaleview.hpp>
+#include <cstdio>
+#include <fstream>
+#include <iterator>
+#include <type_traits>
+
+static int failures = 0;
+
+static void check(const char *what, bool is_so) {
+    if (is_so) return;
+    std::printf("use: not so: %s\n", what);
+    failures++;
+}
+
+static std::vector<std::uint8_t> read(const char *path) {
+    std::ifstream file(path, std::ios::binary);
+    return {std::istreambuf_iterator<char>(file), std::istreambuf_iterator<char>()};
+}
+
+static_assert(std::is_nothrow_move_constructible_v<scaleview::registry> && !std::is_copy_constructible_v<scaleview::registry>);
+static_assert(std::is_nothrow_move_assignable_v<scaleview::session> && !std::is_copy_assignable_v<scaleview::session>);
+
+/* The line of what a call throws, and its place. */
+template <typename Call> static std::string thrown(Call call, std::uint64_t place) {
+    try {
+        call();
+    } catch (const scaleview::error &error) {
+        return error.place() == place ? error.what() : "another place";
+    }
+    return "nothing";
+}
+
+static void check_value(scaleview::registry &registry, std::uint32_t type, const std::vector<std::uint8_t> &bytes,
+                        const std::string &json) {
+    check("the text", registry.decode_json(type, bytes) == json);
+    const auto value = registry.decode(type, bytes);
+    check("the nodes", value.after(0) == value.nodes.size() && value.nodes.at(0).type == type);
+    check("encoded again", registry.encode(type, value) == bytes);
+    auto session = registry.start(type);
+    const scaleview::bytes_view all(bytes);
+    std::size_t at = 0;
+    for (; at < bytes.size() && !session.feed(all.sub(at, 7)); at += 7) check("taken", session.taken() == at + 7);
+    auto moved = std::move(session);
+    check("held", moved.nodes() == value.nodes.size() && moved.text_bytes() == value.pool.size());
+    check("the text in pieces", moved.finish_json() == json);
+    const auto again = moved.finish();
+    check("the nodes in pieces", again.pool == value.pool && again.nodes.size() == value.nodes.size());
+}
+
+/* Each field of a composite is the child of its node. */
+static void check_fields(const scaleview::registry &registry, std::uint32_t type, const scaleview::value &value) {
+    const auto found = registry.describe(type);
+    const auto children = value.children(0);
+    check("a composite", found.shape.kind == SCALEVIEW_COMPOSITE && found.arms.empty());
+    check("its fields", found.fields.size() == children.size() && found.fields.at(0).name == "nonce");
+    for (std::size_t i = 0; i < children.size(); i++) {
+        const auto &field = found.fields.at(i);
+        check("a field", field.has_name && value.nodes.at(children.at(i)).type == field.type);
+    }
+}
+
+static void check_arms(const scaleview::registry &registry) {
+    const auto event = registry.find("pallet_balances::pallet::Event").value();
+    auto found = registry.describe(event);
+    // The names stay where they are.
+    const auto moved = std::move(found);
+    const auto &transfer = moved.arms.at(1);
+    check("an arm", transfer.name == "Transfer" && transfer.index == 1 && transfer.fields.size() == 3);
+    check("its field", transfer.fields.at(2).name == "amount" && moved.fields.empty());
+    check("its path", moved.path == "pallet_balances::pallet::Event" && registry.path(event) == moved.path);
+    const auto line = std::to_string(event) + " Sized variant \"" + std::string(moved.path) + "\"\n";
+    check("its line", registry.type_line(event) == line);
+    check("no such path", !registry.find("no::such"));
+}
+
+/* A text, and a registry that outlives its handle by a session. */
+static void check_small() {
+    static const std::uint8_t text[] = {4, 0, 0, 0, 5, 2, 0};
+    auto registry = scaleview::registry::open(scaleview::bytes_view(text, sizeof text));
+    check("alone", registry.types() == 1 && registry.version() == 0 && registry.end() == sizeof text);
+    const auto value = registry.decode(0, std::string_view("\x0cyes"));
+    check("a text", value.text(value.nodes.at(0)) == "yes" && value.text({}).empty());
+    // An empty vector has no address.
+    const std::vector<std::uint8_t> empty;
+    check("no bytes", thrown([&] { registry.decode(0, empty); }, 0) == "value: Truncated at 0");
+    check("no registry", thrown([&] { scaleview::registry::open(empty); }, 0) == "registry: Truncated at 0");
+    check("no type", thrown([&] { registry.decode(7, empty); }, 0) == "type: UnknownType 7");
+    check("a node", thrown([&] { registry.encode(0, {{{}}, {}}); }, 0) == "node: WrongKind at 0");
+    check("a budget", thrown([&] { registry.decode(0, std::string_view("\x0cyes"), {64, 9, 1}); }, 0) == "memory");
+    auto session = [&] {
+        auto other = std::move(registry);
+        return other.start(0);
+    }();
+    // What was moved away has no handle, which is answered.
+    check("moved away", registry.types() == 0 && thrown([&] { registry.start(0); }, 0) == "code 5 NoHandle");
+    check("incomplete", !session.feed(empty) && !session.feed(std::string_view("\x0cye")));
+    check("complete", session.feed(std::string_view("sss")) == std::size_t{1});
+    check("its text", session.finish_json() == "\"yes\"");
+}
+
+int main(int count, char **words) {
+    if (count != 5) return 2;
+    check("the version", scaleview_version() == SCALEVIEW_VERSION);
+    auto registry = scaleview::registry::open(read(words[1]));
+    check("metadata", registry.version() == 14 && registry.end() < read(words[1]).size());
+    const auto type = registry.find(words[2]);
+    if (!type) return 3;
+    const auto bytes = read(words[3]), stored = read(words[4]);
+    std::string json(stored.begin(), stored.end());
+    while (!json.empty() && json.back() == '\n') json.pop_back();
+    check_value(registry, *type, bytes, json);
+    check_fields(registry, *type, registry.decode(*type, bytes));
+    check_arms(registry);
+    check_small();
+    return failures > 0;
+}

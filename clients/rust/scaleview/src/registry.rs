@@ -1,0 +1,533 @@
+//! A registry that is open.
+
+use crate::buffer;
+use crate::describe::{Details, Reader};
+use crate::error::Error;
+use crate::item::{self, Source};
+use crate::limits::Limits;
+use crate::session::{OwnedSession, Session};
+use crate::types::{Primitive, Type, TypeId, Types};
+use crate::value::Value;
+use scaleview_sys::{
+    self as sys, scaleview_answer as Answer, scaleview_node as Node, scaleview_registry as Handle,
+};
+use std::fmt;
+use std::sync::atomic::{AtomicU8, Ordering};
+use std::sync::{Arc, OnceLock, PoisonError, RwLock};
+
+/// The library's handle of an open registry.
+struct Raw(Handle);
+
+// SAFETY: the header ties no handle to a thread; it wants calls kept apart. "scaleview_types, the
+// calls that describe types, scaleview_decode, scaleview_decode_nodes and scaleview_encode_nodes
+// only read a registry: any number of threads may make them on one registry at the same time." They
+// are made in `Registry::reading`, which shares the lock. "Every other call changes its handles,
+// and the count of sessions that a registry keeps without a lock: it must be the only one on this
+// registry and its sessions while it runs." They are made in `Registry::changing`, which has the
+// lock alone, those on a session too; or in `drop`, where nothing else has the registry.
+unsafe impl Send for Raw {}
+// SAFETY: as above.
+unsafe impl Sync for Raw {}
+
+/// What was read of a type.
+#[derive(Default)]
+struct Slot {
+    /// A vector of one, since only a vector's memory is asked for without an abort.
+    details: OnceLock<Vec<Details>>,
+    /// One more than the number of the primitive that the type wraps, or 0 if it isn't known yet.
+    target: AtomicU8,
+}
+
+/// A registry of types that is open. It is freed when it is dropped.
+///
+/// It may be shared by threads. Calls that only read it run at the same time: decoding, encoding
+/// and what is asked of types. A call on a session has the registry alone while it runs, since the
+/// library wants that.
+///
+/// ```
+/// # use scaleview::{Error, Registry};
+/// # fn main() -> Result<(), Error> {
+/// let registry = Registry::open(b"\x04\x00\x00\x00\x05\x03\x00")?;
+/// std::thread::scope(|scope| {
+///     for byte in 0..4 {
+///         let registry = &registry;
+///         scope.spawn(move || assert_eq!(registry.decode_json(0, &[byte]), Ok(byte.to_string())));
+///     }
+/// });
+/// # Ok(())
+/// # }
+/// ```
+///
+/// No session outlives it:
+///
+/// ```compile_fail,E0505
+/// let registry = scaleview::Registry::open(b"\x04\x00\x00\x00\x05\x03\x00").unwrap();
+/// let session = registry.start(0, Default::default()).unwrap();
+/// drop(registry);
+/// drop(session);
+/// ```
+pub struct Registry {
+    raw: RwLock<Raw>,
+    slots: Vec<Slot>,
+    len: u32,
+    end: u64,
+    version: u32,
+}
+
+/// The first four bytes of metadata. No registry alone begins with them: its first type would have
+/// the id 29.
+const METADATA: &[u8] = b"meta";
+
+impl Registry {
+    fn opened(bytes: &[u8], metadata: bool) -> Result<Registry, Error> {
+        let found = sys::scaleview_version();
+        if found / 100 != sys::SCALEVIEW_VERSION / 100 {
+            return Err(Error::Version { found });
+        }
+        let (mut handle, mut answer) = (
+            Handle {
+                inside: std::ptr::null_mut(),
+            },
+            Answer::default(),
+        );
+        // SAFETY: the slice and both places are this call's, and the handle is null.
+        let code = unsafe {
+            sys::scaleview_open(
+                bytes.as_ptr(),
+                bytes.len(),
+                metadata,
+                &mut handle,
+                &mut answer,
+            )
+        };
+        if code != sys::SCALEVIEW_OK {
+            return Err(Error::of(answer));
+        }
+        let raw = RwLock::new(Raw(handle));
+        let len = answer.length as u32;
+        let mut registry = Registry {
+            raw,
+            slots: Vec::new(),
+            len,
+            end: answer.at,
+            version: answer.from,
+        };
+        registry.slots = buffer::reserved(len as usize)?;
+        registry.slots.resize_with(len as usize, Slot::default);
+        Ok(registry)
+    }
+
+    /// Opens the registry that all the bytes hold: a chain's metadata, version 14 or 15, if they
+    /// begin with the four letters `meta`, and otherwise a registry alone. What follows the
+    /// registry in metadata is not read. The bytes are not kept.
+    ///
+    /// # Errors
+    /// `Registry` at the first error, `UnknownReference` if a type refers to one that doesn't
+    /// exist, `Memory`, `Version`.
+    pub fn open(bytes: &[u8]) -> Result<Registry, Error> {
+        Registry::opened(bytes, bytes.starts_with(METADATA))
+    }
+
+    /// Opens a registry alone, whatever the bytes begin with.
+    ///
+    /// # Errors
+    /// As [`open`](Registry::open).
+    pub fn open_raw(bytes: &[u8]) -> Result<Registry, Error> {
+        Registry::opened(bytes, false)
+    }
+
+    /// Opens the registry of a chain's metadata; other bytes are rejected with `NotMetadata`.
+    ///
+    /// # Errors
+    /// As [`open`](Registry::open).
+    pub fn open_metadata(bytes: &[u8]) -> Result<Registry, Error> {
+        Registry::opened(bytes, true)
+    }
+
+    /// Makes a call that only reads the registry; others of this kind may run at the same time.
+    pub(crate) fn reading<T>(&self, call: impl FnOnce(Handle) -> T) -> T {
+        let raw = self.raw.read().unwrap_or_else(PoisonError::into_inner);
+        call(raw.0)
+    }
+
+    /// Makes a call that changes the registry or a session of it; no other call runs at the same
+    /// time.
+    pub(crate) fn changing<T>(&self, call: impl FnOnce(Handle) -> T) -> T {
+        let raw = self.raw.write().unwrap_or_else(PoisonError::into_inner);
+        call(raw.0)
+    }
+
+    /// Returns the version of the metadata, or `None` for a registry alone.
+    pub fn version(&self) -> Option<u32> {
+        (self.version != 0).then_some(self.version)
+    }
+
+    /// Returns where the registry ends, in bytes from the start of the input.
+    pub fn end(&self) -> u64 {
+        self.end
+    }
+
+    /// Returns the number of types; their positions are below that.
+    pub fn len(&self) -> u32 {
+        self.len
+    }
+
+    /// Returns whether it has no types.
+    pub fn is_empty(&self) -> bool {
+        self.len == 0
+    }
+
+    /// Returns the type at this position.
+    pub fn get(&self, id: TypeId) -> Option<Type<'_>> {
+        // SAFETY: the registry is open, and the lock is shared.
+        let shape = self
+            .reading(|handle| unsafe { Reader::new(handle) }.shape(id))
+            .ok()?;
+        Some(Type {
+            registry: self,
+            id,
+            shape,
+        })
+    }
+
+    /// Returns the types, in the order of their positions.
+    pub fn types(&self) -> Types<'_> {
+        Types {
+            registry: self,
+            rest: 0..self.len,
+        }
+    }
+
+    /// Returns the first type with this path, its segments joined by `::`. An empty path finds the
+    /// first type without one.
+    pub fn find(&self, path: &str) -> Option<TypeId> {
+        self.find_from(0, path)
+    }
+
+    /// Returns the first type with this path, from the position `from` on. A path need not be one
+    /// type's alone.
+    pub fn find_from(&self, from: TypeId, path: &str) -> Option<TypeId> {
+        let mut answer = Answer::default();
+        let code = self.reading(|handle| {
+            // SAFETY: the registry is open and the lock is shared; the slice and the place are this
+            // call's.
+            unsafe { sys::scaleview_find(handle, from, path.as_ptr(), path.len(), &mut answer) }
+        });
+        if code == sys::SCALEVIEW_OK {
+            TypeId::try_from(answer.at).ok()
+        } else {
+            None
+        }
+    }
+
+    /// Returns the type's position, class, kind and path, and a line feed, as the command prints
+    /// them.
+    ///
+    /// # Errors
+    /// `UnknownType`, `Memory`.
+    pub fn type_line(&self, id: TypeId) -> Result<String, Error> {
+        let call = |out, room, answer: &mut Answer| {
+            // SAFETY: the registry is open and the lock is shared; the places are this call's.
+            self.reading(|handle| unsafe {
+                sys::scaleview_type_line(handle, id, out, room, answer)
+            })
+        };
+        // SAFETY: the header promises what `text` wants.
+        unsafe { buffer::text(128, call) }.map_err(Error::of_type(id))
+    }
+
+    /// Returns what the registry says of a type, which is read once and kept.
+    pub(crate) fn details(&self, id: TypeId) -> Result<&Details, Error> {
+        let slot = self
+            .slots
+            .get(id as usize)
+            .ok_or(Error::UnknownType { id })?;
+        if slot.details.get().is_none() {
+            // SAFETY: the registry is open, and the lock is shared.
+            let details = self.reading(|handle| unsafe { Reader::new(handle) }.details(id))?;
+            let mut one = buffer::reserved(1)?;
+            one.push(details);
+            // Another thread may have read the same meanwhile.
+            let _ = slot.details.set(one);
+        }
+        slot.details
+            .get()
+            .and_then(|one| one.first())
+            .ok_or(Error::Memory)
+    }
+
+    /// Returns the next type inside one that wraps one value, the primitive, or neither.
+    fn inside(&self, reader: Reader, id: TypeId) -> Result<TypeId, Option<Primitive>> {
+        let known = self
+            .slots
+            .get(id as usize)
+            .map_or(0, |slot| slot.target.load(Ordering::Relaxed));
+        if known != 0 {
+            return Err(Primitive::of(u32::from(known) - 1));
+        }
+        let shape = reader.shape(id).map_err(|_| None)?;
+        match shape.kind {
+            sys::SCALEVIEW_PRIMITIVE => Err(Primitive::of(shape.primitive)),
+            sys::SCALEVIEW_COMPACT => Ok(shape.element),
+            sys::SCALEVIEW_COMPOSITE | sys::SCALEVIEW_TUPLE if shape.parts == 1 => {
+                reader.first_part(id).ok_or(None)
+            }
+            _ => Err(None),
+        }
+    }
+
+    /// Returns the primitive that the type is or wraps, as a compact does.
+    pub(crate) fn target(&self, id: TypeId) -> Option<Primitive> {
+        self.reading(|handle| {
+            // SAFETY: the registry is open, and the lock is shared.
+            let reader = unsafe { Reader::new(handle) };
+            let mut at = id;
+            // Types may wrap one another in a circle.
+            let found = (0..=self.len).find_map(|_| match self.inside(reader, at) {
+                Ok(next) => {
+                    at = next;
+                    None
+                }
+                Err(end) => Some(end),
+            })??;
+            // Those on the way have the same, and need not go it again.
+            let mut at = id;
+            while let Ok(next) = self.inside(reader, at) {
+                self.learn(at, found);
+                at = next;
+            }
+            self.learn(at, found);
+            Some(found)
+        })
+    }
+
+    fn learn(&self, id: TypeId, target: Primitive) {
+        if let Some(slot) = self.slots.get(id as usize) {
+            slot.target.store(target as u8 + 1, Ordering::Relaxed);
+        }
+    }
+
+    /// Decodes the value, of the type at this position, that all the bytes spell, within the
+    /// default limits.
+    ///
+    /// # Errors
+    /// `UnknownType`, `Value` with the reason and the place, `Memory`.
+    pub fn decode(&self, id: TypeId, bytes: &[u8]) -> Result<Value<'_>, Error> {
+        self.decode_within(id, bytes, Limits::new())
+    }
+
+    /// Decodes a value as [`decode`](Registry::decode) does, within these limits.
+    ///
+    /// # Errors
+    /// As [`decode`](Registry::decode), and `LimitOutOfRange`.
+    pub fn decode_within(
+        &self,
+        id: TypeId,
+        bytes: &[u8],
+        limits: Limits,
+    ) -> Result<Value<'_>, Error> {
+        let Limits {
+            depth,
+            bytes: limit,
+            memory,
+        } = limits;
+        let call = |nodes, node_room, pool, pool_room, answer: &mut Answer| {
+            // SAFETY: the registry is open and the lock is shared; the slice and the places are
+            // this call's.
+            self.reading(|handle| unsafe {
+                sys::scaleview_decode_nodes(
+                    handle,
+                    id,
+                    depth,
+                    limit,
+                    memory,
+                    bytes.as_ptr(),
+                    bytes.len(),
+                    nodes,
+                    node_room,
+                    pool,
+                    pool_room,
+                    answer,
+                )
+            })
+        };
+        // Most values have fewer nodes than bytes, and all have at most as many bytes in their
+        // pool.
+        let most = usize::try_from(limit).map_or(bytes.len(), |limit| bytes.len().min(limit));
+        let guess = (most / 8 * 5 + 8, most);
+        // SAFETY: the header promises what `nodes` wants.
+        let (nodes, pool) = unsafe { buffer::nodes(guess, call) }.map_err(Error::of_type(id))?;
+        Value::new(self, nodes, pool)
+    }
+
+    /// Returns the JSON of the value, of the type at this position, that all the bytes spell,
+    /// within the default limits.
+    ///
+    /// The text nests at most `2 * (depth + 1)` arrays and objects, which is 130 by default.
+    /// `serde_json::from_str` reads 127 levels, so it reads all values of a depth up to 62; for
+    /// deeper ones give it `serde_json::Deserializer::disable_recursion_limit`.
+    ///
+    /// # Errors
+    /// As [`decode`](Registry::decode).
+    pub fn decode_json(&self, id: TypeId, bytes: &[u8]) -> Result<String, Error> {
+        self.decode_json_within(id, bytes, Limits::new())
+    }
+
+    /// Returns JSON as [`decode_json`](Registry::decode_json) does, within these limits.
+    ///
+    /// # Errors
+    /// As [`decode`](Registry::decode), and `LimitOutOfRange`.
+    pub fn decode_json_within(
+        &self,
+        id: TypeId,
+        bytes: &[u8],
+        limits: Limits,
+    ) -> Result<String, Error> {
+        let Limits {
+            depth,
+            bytes: limit,
+            memory,
+        } = limits;
+        let call = |out, room, answer: &mut Answer| {
+            // SAFETY: the registry is open and the lock is shared; the slice and the places are
+            // this call's.
+            self.reading(|handle| unsafe {
+                sys::scaleview_decode(
+                    handle,
+                    id,
+                    depth,
+                    limit,
+                    memory,
+                    bytes.as_ptr(),
+                    bytes.len(),
+                    out,
+                    room,
+                    answer,
+                )
+            })
+        };
+        // SAFETY: the header promises what `text` wants.
+        unsafe { buffer::text(json_guess(limit.min(bytes.len() as u64)), call) }
+            .map_err(Error::of_type(id))
+    }
+
+    /// Encodes a value of the type at this position: a decoded [`Value`], a part of one, or an
+    /// [`Item`](crate::Item).
+    ///
+    /// ```
+    /// # use scaleview::{Error, Item, Registry};
+    /// # fn main() -> Result<(), Error> {
+    /// let registry = Registry::open(b"\x04\x00\x00\x00\x05\x05\x00")?;
+    /// assert_eq!(registry.encode(0, &Item::from(7))?, [7, 0, 0, 0]);
+    /// assert_eq!(registry.encode(0, &registry.decode(0, &[7, 0, 0, 0])?)?, [7, 0, 0, 0]);
+    /// # Ok(())
+    /// # }
+    /// ```
+    ///
+    /// # Errors
+    /// `UnknownType`, `Node` with the reason and the node, `UnknownField` and `MissingField` for an
+    /// item, `Memory`.
+    pub fn encode<'a>(&self, id: TypeId, source: impl Into<Source<'a>>) -> Result<Vec<u8>, Error> {
+        self.encode_within(id, source, Limits::new())
+    }
+
+    /// Encodes a value as [`encode`](Registry::encode) does, within a depth and a budget of memory.
+    ///
+    /// # Errors
+    /// As [`encode`](Registry::encode), and `LimitOutOfRange`.
+    pub fn encode_within<'a>(
+        &self,
+        id: TypeId,
+        source: impl Into<Source<'a>>,
+        limits: Limits,
+    ) -> Result<Vec<u8>, Error> {
+        match source.into() {
+            Source::Value(value) => self.encode_nodes(id, value.nodes, value.pool, limits),
+            Source::Item(item) => {
+                let (nodes, pool) = item::lower(self, id, item)?;
+                self.encode_nodes(id, &nodes, &pool, limits)
+            }
+        }
+    }
+
+    fn encode_nodes(
+        &self,
+        id: TypeId,
+        nodes: &[Node],
+        pool: &[u8],
+        limits: Limits,
+    ) -> Result<Vec<u8>, Error> {
+        let Limits { depth, memory, .. } = limits;
+        let call = |out, room, answer: &mut Answer| {
+            // SAFETY: the registry is open and the lock is shared; the slices and the places are
+            // this call's.
+            self.reading(|handle| unsafe {
+                sys::scaleview_encode_nodes(
+                    handle,
+                    id,
+                    depth,
+                    memory,
+                    nodes.as_ptr(),
+                    nodes.len(),
+                    pool.as_ptr(),
+                    pool.len(),
+                    out,
+                    room,
+                    answer,
+                )
+            })
+        };
+        let guess = nodes.len().saturating_mul(8).saturating_add(pool.len());
+        // SAFETY: the header promises what `bytes` wants.
+        unsafe { buffer::bytes(guess, call) }.map_err(Error::of_type(id))
+    }
+
+    /// Starts a value of the type at this position whose bytes come in pieces, in a session that
+    /// borrows the registry.
+    ///
+    /// # Errors
+    /// `UnknownType`, `LimitOutOfRange`, `Memory`.
+    pub fn start(&self, id: TypeId, limits: Limits) -> Result<Session<'_>, Error> {
+        Session::over(self, id, limits)
+    }
+
+    /// Starts a value as [`start`](Registry::start) does, in a session that shares the registry and
+    /// may be kept anywhere.
+    ///
+    /// # Errors
+    /// As [`start`](Registry::start).
+    pub fn start_owned(
+        self: &Arc<Self>,
+        id: TypeId,
+        limits: Limits,
+    ) -> Result<OwnedSession, Error> {
+        OwnedSession::over(Arc::clone(self), id, limits)
+    }
+}
+
+/// Returns a likely size of the JSON of so many bytes.
+pub(crate) fn json_guess(bytes: u64) -> usize {
+    usize::try_from(bytes.saturating_mul(8)).map_or(usize::MAX, |bytes| bytes.saturating_add(128))
+}
+
+impl fmt::Debug for Registry {
+    fn fmt(&self, f: &mut fmt::Formatter<'_>) -> fmt::Result {
+        let Registry {
+            len, end, version, ..
+        } = self;
+        f.debug_struct("Registry")
+            .field("len", len)
+            .field("end", end)
+            .field("version", version)
+            .finish_non_exhaustive()
+    }
+}
+
+impl Drop for Registry {
+    fn drop(&mut self) {
+        let raw = self.raw.get_mut().unwrap_or_else(PoisonError::into_inner);
+        // SAFETY: nothing else has the registry, and no call follows. A session that was forgotten
+        // keeps it open.
+        unsafe { sys::scaleview_close(&mut raw.0) };
+    }
+}

@@ -1,0 +1,244 @@
+//! A value whose bytes come in pieces.
+
+use crate::buffer;
+use crate::error::Error;
+use crate::limits::Limits;
+use crate::registry::{Registry, json_guess};
+use crate::types::TypeId;
+use crate::value::Value;
+use scaleview_sys::{self as sys, scaleview_answer as Answer, scaleview_session as Handle};
+use std::cell::UnsafeCell;
+use std::fmt;
+use std::sync::Arc;
+
+/// How far a value is.
+#[derive(Clone, Copy, Debug, PartialEq, Eq, Hash)]
+pub enum Progress {
+    /// All bytes of the piece were taken, and the value is incomplete.
+    More,
+    /// The value is complete.
+    Done {
+        /// How many bytes of this piece belong to it.
+        used: u64,
+    },
+}
+
+/// The library's handle of a session. Every call is given its place, those that only report too.
+struct Raw(UnsafeCell<Handle>);
+
+// SAFETY: the header ties no handle to a thread. "Every other call changes its handles, and the
+// count of sessions that a registry keeps without a lock: it must be the only one on this registry
+// and its sessions while it runs." All calls on a session are such, and are made in
+// `Registry::changing`, which lets no other call on the registry or its sessions run.
+unsafe impl Send for Raw {}
+// SAFETY: as above. The cell is reached in `Registry::changing` alone.
+unsafe impl Sync for Raw {}
+
+mod sealed {
+    use crate::Registry;
+    use std::sync::Arc;
+
+    /// What keeps a registry open, at one place: a borrow of it, or a share.
+    pub trait Keeps: std::ops::Deref<Target = Registry> {}
+    impl Keeps for &Registry {}
+    impl Keeps for Arc<Registry> {}
+}
+
+use sealed::Keeps;
+
+/// A value in progress, as [`Session`] and [`OwnedSession`] are. It is freed when it is dropped.
+///
+/// Sessions of one registry may be on several threads. Their calls wait for one another, and for
+/// calls on the registry. To feed values at the same time, open a registry for each thread.
+pub struct AnySession<R: Keeps> {
+    raw: Raw,
+    registry: R,
+}
+
+/// A value in progress, over a registry that it borrows.
+///
+/// ```
+/// # fn main() -> Result<(), scaleview::Error> {
+/// use scaleview::{Limits, Progress, Registry};
+/// let registry = Registry::open(b"\x04\x00\x00\x00\x05\x04\x00")?;
+/// let mut session = registry.start(0, Limits::new())?;
+/// assert_eq!(session.feed(b"\x2a")?, Progress::More);
+/// assert_eq!(session.feed(b"\x00\xff")?, Progress::Done { used: 1 });
+/// assert_eq!(session.finish()?.as_u128(), Some(42));
+/// assert_eq!(session.finish_json()?, "42");
+/// # Ok(())
+/// # }
+/// ```
+pub type Session<'r> = AnySession<&'r Registry>;
+
+/// A value in progress, over a registry that it shares: a struct may have both, and a thread may
+/// take it along.
+///
+/// ```
+/// # fn main() -> Result<(), scaleview::Error> {
+/// use scaleview::{Limits, OwnedSession, Registry};
+/// use std::sync::Arc;
+/// struct Reader { registry: Arc<Registry>, session: OwnedSession }
+/// let registry = Arc::new(Registry::open(b"\x04\x00\x00\x00\x05\x04\x00")?);
+/// let session = registry.start_owned(0, Limits::new())?;
+/// let mut reader = Reader { registry, session };
+/// let text = std::thread::spawn(move || {
+///     reader.session.feed(b"\x2a\x00")?;
+///     reader.session.finish_json()
+/// });
+/// assert_eq!(text.join().unwrap()?, "42");
+/// # Ok(())
+/// # }
+/// ```
+pub type OwnedSession = AnySession<Arc<Registry>>;
+
+impl<R: Keeps> AnySession<R> {
+    pub(crate) fn over(registry: R, id: TypeId, limits: Limits) -> Result<AnySession<R>, Error> {
+        let Limits {
+            depth,
+            bytes,
+            memory,
+        } = limits;
+        let (mut handle, mut answer) = (
+            Handle {
+                inside: std::ptr::null_mut(),
+            },
+            Answer::default(),
+        );
+        let code = registry.changing(|open| {
+            // SAFETY: the registry is open, and this call has it alone; the places are this call's,
+            // and the handle is null.
+            unsafe {
+                sys::scaleview_start(open, id, depth, bytes, memory, &mut handle, &mut answer)
+            }
+        });
+        match code {
+            sys::SCALEVIEW_OK => Ok(AnySession {
+                raw: Raw(UnsafeCell::new(handle)),
+                registry,
+            }),
+            _ => Err(Error::of_type(id)(answer)),
+        }
+    }
+
+    /// Makes a call on the session, while no other runs on the registry or a session of it.
+    fn changing<T>(&self, call: impl FnOnce(*mut Handle) -> T) -> T {
+        self.registry.changing(|_| call(self.raw.0.get()))
+    }
+
+    /// Returns the registry.
+    pub fn registry(&self) -> &Registry {
+        &self.registry
+    }
+
+    /// Takes the next piece, which may be empty. A session that has answered keeps its answer.
+    ///
+    /// # Errors
+    /// `Value` with the reason and the place in all pieces, `Memory`. Every later call returns the
+    /// same.
+    pub fn feed(&mut self, piece: &[u8]) -> Result<Progress, Error> {
+        let mut answer = Answer::default();
+        // SAFETY: the handle is a session's, and this call has it alone; the slice and the place
+        // are this call's.
+        let code = self.changing(|session| unsafe {
+            sys::scaleview_feed(session, piece.as_ptr(), piece.len(), &mut answer)
+        });
+        match code {
+            sys::SCALEVIEW_MORE => Ok(Progress::More),
+            sys::SCALEVIEW_OK => Ok(Progress::Done {
+                used: answer.length,
+            }),
+            _ => Err(Error::of(answer)),
+        }
+    }
+
+    fn reported(&self, call: unsafe extern "C" fn(*mut Handle, *mut Answer) -> u32) -> u64 {
+        let mut answer = Answer::default();
+        // SAFETY: as in `feed`.
+        self.changing(|session| unsafe { call(session, &mut answer) });
+        answer.length
+    }
+
+    /// Returns the number of bytes that were taken of all pieces, or 0 after the value was
+    /// finished.
+    pub fn taken(&self) -> u64 {
+        self.reported(sys::scaleview_taken)
+    }
+
+    /// Returns the number of nodes that are held.
+    pub fn nodes(&self) -> u64 {
+        self.reported(sys::scaleview_nodes)
+    }
+
+    /// Returns the number of bytes of texts and byte runs that are held.
+    pub fn text_bytes(&self) -> u64 {
+        self.reported(sys::scaleview_text_bytes)
+    }
+
+    /// Ends the value, and returns its JSON, as [`Registry::decode_json`] does. The value is kept
+    /// until the session is dropped, so both ends may be asked for, and again after `Memory`. No
+    /// piece is taken afterwards.
+    ///
+    /// # Errors
+    /// `Value` with `Truncated` at the bytes taken if the value is incomplete, or the error that
+    /// [`feed`](AnySession::feed) returned; `Memory`.
+    pub fn finish_json(&mut self) -> Result<String, Error> {
+        let guess = json_guess(self.taken());
+        let call = |out, room, answer: &mut Answer| {
+            // SAFETY: as in `feed`.
+            self.changing(|session| unsafe { sys::scaleview_finish(session, out, room, answer) })
+        };
+        // SAFETY: the header promises what `text` wants.
+        unsafe { buffer::text(guess, call) }.map_err(Error::of)
+    }
+
+    fn value<'v>(&self, registry: &'v Registry) -> Result<Value<'v>, Error> {
+        let call = |nodes, node_room, pool, pool_room, answer: &mut Answer| {
+            // SAFETY: as in `feed`.
+            self.changing(|session| unsafe {
+                sys::scaleview_finish_nodes(session, nodes, node_room, pool, pool_room, answer)
+            })
+        };
+        // A session keeps its value, so it may be asked how large it is.
+        // SAFETY: the header promises what `nodes` wants.
+        let (nodes, pool) = unsafe { buffer::nodes((0, 0), call) }.map_err(Error::of)?;
+        Value::new(registry, nodes, pool)
+    }
+}
+
+impl<'r> Session<'r> {
+    /// Ends the value, and returns it. It is kept until the session is dropped, so it may be asked
+    /// for again.
+    ///
+    /// # Errors
+    /// As [`finish_json`](AnySession::finish_json).
+    pub fn finish(&mut self) -> Result<Value<'r>, Error> {
+        self.value(self.registry)
+    }
+}
+
+impl OwnedSession {
+    /// Ends the value, and returns it. It is kept until the session is dropped, so it may be asked
+    /// for again.
+    ///
+    /// # Errors
+    /// As [`finish_json`](AnySession::finish_json).
+    pub fn finish(&mut self) -> Result<Value<'_>, Error> {
+        self.value(&self.registry)
+    }
+}
+
+impl<R: Keeps> fmt::Debug for AnySession<R> {
+    fn fmt(&self, f: &mut fmt::Formatter<'_>) -> fmt::Result {
+        f.debug_struct("Session")
+            .field("taken", &self.taken())
+            .finish_non_exhaustive()
+    }
+}
+
+impl<R: Keeps> Drop for AnySession<R> {
+    fn drop(&mut self) {
+        // SAFETY: as in `feed`, and no call follows.
+        self.changing(|session| unsafe { sys::scaleview_free(session) });
+    }
+}

@@ -1,0 +1,441 @@
+//! A value that is decoded.
+
+use crate::describe::Details;
+use crate::error::Error;
+use crate::registry::Registry;
+use crate::types::{Field, FieldList, Type, TypeId};
+use scaleview_sys::{self as sys, scaleview_node as Node};
+use std::{fmt, slice, str};
+
+/// A decoded value. It keeps its nodes and their bytes in one list each, and borrows its registry.
+///
+/// [`root`](Value::root) is the view of the whole; what a view offers is offered here too. It
+/// displays as the JSON that [`Registry::decode_json`] returns, and so does every part.
+///
+/// ```
+/// # use scaleview::{Error, Kind, Registry};
+/// # fn main() -> Result<(), Error> {
+/// # let bytes = b"\x08\x00\x00\x00\x05\x05\x00\x04\x04\x18Option\x00\x01\x08\x10None\x00\x00\x00\
+/// #     \x10Some\x04\x00\x00\x00\x00\x01\x00\x00";
+/// // enum Option { None, Some(u32) }
+/// let registry = Registry::open(bytes)?;
+/// let value = registry.decode(1, b"\x01\x2a\0\0\0")?;
+/// let (name, mut fields) = value.variant().unwrap();
+/// assert_eq!((name, fields.len()), ("Some", 1));
+/// assert_eq!(fields.next().map(|field| field.kind()), Some(Kind::Unsigned(42)));
+/// assert_eq!(value.to_string(), r#"{"Some":[42]}"#);
+/// # Ok(())
+/// # }
+/// ```
+#[derive(Clone)]
+pub struct Value<'r> {
+    registry: &'r Registry,
+    nodes: Vec<Node>,
+    pool: Vec<u8>,
+}
+
+impl<'r> Value<'r> {
+    /// Reads what the registry says of the types of composites and variants, so that no later walk
+    /// has to.
+    pub(crate) fn new(
+        registry: &'r Registry,
+        nodes: Vec<Node>,
+        pool: Vec<u8>,
+    ) -> Result<Value<'r>, Error> {
+        for node in &nodes {
+            if matches!(
+                node.kind,
+                sys::SCALEVIEW_NODE_FIELDS | sys::SCALEVIEW_NODE_ARM
+            ) {
+                registry.details(node.r#type)?;
+            }
+        }
+        Ok(Value {
+            registry,
+            nodes,
+            pool,
+        })
+    }
+
+    /// Returns the view of the whole value.
+    pub fn root(&self) -> ValueRef<'_> {
+        ValueRef {
+            registry: self.registry,
+            nodes: &self.nodes,
+            pool: &self.pool,
+        }
+    }
+
+    /// Returns the registry of its types.
+    pub fn registry(&self) -> &'r Registry {
+        self.registry
+    }
+
+    /// Does what [`ValueRef::type_id`] does.
+    pub fn type_id(&self) -> TypeId {
+        self.root().type_id()
+    }
+
+    /// Does what [`ValueRef::kind`] does.
+    pub fn kind(&self) -> Kind<'_> {
+        self.root().kind()
+    }
+
+    /// Does what [`ValueRef::children`] does.
+    pub fn children(&self) -> Children<'_> {
+        self.root().children()
+    }
+
+    /// Does what [`ValueRef::child`] does.
+    pub fn child(&self, position: usize) -> Option<ValueRef<'_>> {
+        self.root().child(position)
+    }
+
+    /// Does what [`ValueRef::fields`] does.
+    pub fn fields(&self) -> Fields<'_> {
+        self.root().fields()
+    }
+
+    /// Does what [`ValueRef::get`] does.
+    pub fn get(&self, name: &str) -> Option<ValueRef<'_>> {
+        self.root().get(name)
+    }
+
+    /// Does what [`ValueRef::variant`] does.
+    pub fn variant(&self) -> Option<(&str, Children<'_>)> {
+        self.root().variant()
+    }
+
+    /// Does what [`ValueRef::as_u128`] does.
+    pub fn as_u128(&self) -> Option<u128> {
+        self.root().as_u128()
+    }
+
+    /// Does what [`ValueRef::as_str`] does.
+    pub fn as_str(&self) -> Option<&str> {
+        self.root().as_str()
+    }
+
+    /// Does what [`ValueRef::as_bytes`] does.
+    pub fn as_bytes(&self) -> Option<&[u8]> {
+        self.root().as_bytes()
+    }
+}
+
+/// Two values are equal if their nodes and bytes are, types included; the registries aren't
+/// compared.
+impl PartialEq for Value<'_> {
+    fn eq(&self, other: &Value<'_>) -> bool {
+        self.nodes == other.nodes && self.pool == other.pool
+    }
+}
+
+impl Eq for Value<'_> {}
+
+impl fmt::Display for Value<'_> {
+    fn fmt(&self, f: &mut fmt::Formatter<'_>) -> fmt::Result {
+        self.root().fmt(f)
+    }
+}
+
+impl fmt::Debug for Value<'_> {
+    fn fmt(&self, f: &mut fmt::Formatter<'_>) -> fmt::Result {
+        fmt::Debug::fmt(&self.root(), f)
+    }
+}
+
+/// What a part of a value is.
+#[derive(Clone, Copy, Debug, PartialEq, Eq, Hash)]
+#[non_exhaustive]
+pub enum Kind<'a> {
+    /// The one value of a type that takes no bytes.
+    Unit,
+    /// A boolean.
+    Bool(bool),
+    /// A character.
+    Char(char),
+    /// A text.
+    Text(&'a str),
+    /// A sequence or an array of u8.
+    Bytes(&'a [u8]),
+    /// An unsigned integer of at most 128 bits.
+    Unsigned(u128),
+    /// A signed integer of at most 128 bits.
+    Signed(i128),
+    /// A 256-bit integer, the lowest byte first.
+    Wide([u8; 32]),
+    /// A compact integer.
+    Compact(u128),
+    /// A composite or a tuple: [`ValueRef::fields`], [`ValueRef::get`].
+    Fields,
+    /// A variant: [`ValueRef::variant`].
+    Variant,
+    /// An array or a sequence of another type than u8: [`ValueRef::children`].
+    List,
+    /// A sequence of so many elements that take no bytes.
+    Empties(u32),
+}
+
+/// A view of a value or of a part of it. It displays as JSON.
+#[derive(Clone, Copy)]
+pub struct ValueRef<'a> {
+    pub(crate) registry: &'a Registry,
+    /// The nodes of its subtree, itself first.
+    pub(crate) nodes: &'a [Node],
+    pub(crate) pool: &'a [u8],
+}
+
+impl<'a> ValueRef<'a> {
+    fn node(self) -> Node {
+        self.nodes.first().copied().unwrap_or_default()
+    }
+
+    /// Returns the position of its type.
+    pub fn type_id(self) -> TypeId {
+        self.node().r#type
+    }
+
+    /// Returns its type.
+    pub fn ty(self) -> Option<Type<'a>> {
+        self.registry.get(self.type_id())
+    }
+
+    fn bytes(self, node: Node) -> &'a [u8] {
+        let at = usize::try_from(node.low).unwrap_or(usize::MAX);
+        let length = usize::try_from(node.high).unwrap_or(usize::MAX);
+        self.pool
+            .get(at..)
+            .and_then(|rest| rest.get(..length))
+            .unwrap_or_default()
+    }
+
+    /// Returns what it is.
+    pub fn kind(self) -> Kind<'a> {
+        let node = self.node();
+        let number = u128::from(node.high) << 64 | u128::from(node.low);
+        // The library promises that characters are scalar values, texts UTF-8, and wide integers 32
+        // bytes.
+        match node.kind {
+            sys::SCALEVIEW_NODE_BOOL => Kind::Bool(node.low != 0),
+            sys::SCALEVIEW_NODE_CHAR => {
+                Kind::Char(char::from_u32(node.low as u32).unwrap_or(char::REPLACEMENT_CHARACTER))
+            }
+            sys::SCALEVIEW_NODE_UNSIGNED => Kind::Unsigned(number),
+            sys::SCALEVIEW_NODE_SIGNED => Kind::Signed(number as i128),
+            sys::SCALEVIEW_NODE_COMPACT => Kind::Compact(number),
+            sys::SCALEVIEW_NODE_COUNT => Kind::Empties(node.low as u32),
+            sys::SCALEVIEW_NODE_TEXT => {
+                Kind::Text(str::from_utf8(self.bytes(node)).unwrap_or_default())
+            }
+            sys::SCALEVIEW_NODE_BYTES => Kind::Bytes(self.bytes(node)),
+            sys::SCALEVIEW_NODE_WIDE => Kind::Wide(self.bytes(node).try_into().unwrap_or_default()),
+            sys::SCALEVIEW_NODE_FIELDS => Kind::Fields,
+            sys::SCALEVIEW_NODE_ARM => Kind::Variant,
+            sys::SCALEVIEW_NODE_LIST => Kind::List,
+            _ => Kind::Unit,
+        }
+    }
+
+    /// Returns its parts: the fields of a composite, a tuple or a variant, or the elements of a
+    /// list. Others have none.
+    pub fn children(self) -> Children<'a> {
+        let rest = ValueRef {
+            nodes: self.nodes.get(1..).unwrap_or_default(),
+            ..self
+        };
+        Children {
+            rest,
+            left: self.node().children,
+        }
+    }
+
+    /// Returns the part at this position. It passes all parts before it.
+    pub fn child(self, position: usize) -> Option<ValueRef<'a>> {
+        self.children().nth(position)
+    }
+
+    fn details(self) -> Option<&'a Details> {
+        self.registry.details(self.type_id()).ok()
+    }
+
+    /// Returns the fields of its composite, its tuple, or its variant.
+    pub(crate) fn list(self) -> Option<&'a FieldList> {
+        let node = self.node();
+        match node.kind {
+            sys::SCALEVIEW_NODE_FIELDS => Some(&self.details()?.list),
+            sys::SCALEVIEW_NODE_ARM => Some(&self.details()?.variants.get(node.arm as usize)?.list),
+            _ => None,
+        }
+    }
+
+    /// Returns the fields of a composite, a tuple or a variant with their names. Others have none.
+    pub fn fields(self) -> Fields<'a> {
+        let list = self.list();
+        let children = if list.is_some() {
+            self.children()
+        } else {
+            Children {
+                rest: self,
+                left: 0,
+            }
+        };
+        Fields {
+            names: list
+                .map_or([].as_slice(), |list| list.fields.as_slice())
+                .iter(),
+            children,
+        }
+    }
+
+    /// Returns the field of this name, of a composite or of a variant.
+    pub fn get(self, name: &str) -> Option<ValueRef<'a>> {
+        let position = self
+            .list()?
+            .fields
+            .iter()
+            .position(|field| field.name() == Some(name))?;
+        self.child(position)
+    }
+
+    /// Returns the variant's name.
+    pub fn variant_name(self) -> Option<&'a str> {
+        let node = self.node();
+        if node.kind != sys::SCALEVIEW_NODE_ARM {
+            return None;
+        }
+        self.details()?
+            .variants
+            .get(node.arm as usize)
+            .map(|variant| variant.name())
+    }
+
+    /// Returns the variant's name and its fields.
+    pub fn variant(self) -> Option<(&'a str, Children<'a>)> {
+        self.variant_name().map(|name| (name, self.children()))
+    }
+
+    /// Returns a boolean.
+    pub fn as_bool(self) -> Option<bool> {
+        if let Kind::Bool(is) = self.kind() {
+            Some(is)
+        } else {
+            None
+        }
+    }
+
+    /// Returns a character.
+    pub fn as_char(self) -> Option<char> {
+        if let Kind::Char(c) = self.kind() {
+            Some(c)
+        } else {
+            None
+        }
+    }
+
+    /// Returns an integer of any width, if it isn't negative and has at most 128 bits.
+    pub fn as_u128(self) -> Option<u128> {
+        match self.kind() {
+            Kind::Unsigned(number) | Kind::Compact(number) => Some(number),
+            Kind::Signed(number) => u128::try_from(number).ok(),
+            Kind::Wide(bytes) => {
+                let (low, high) = bytes.split_first_chunk::<16>()?;
+                high.iter()
+                    .all(|byte| *byte == 0)
+                    .then_some(u128::from_le_bytes(*low))
+            }
+            _ => None,
+        }
+    }
+
+    /// Returns an integer of at most 128 bits, if it is in range.
+    pub fn as_i128(self) -> Option<i128> {
+        match self.kind() {
+            Kind::Unsigned(number) | Kind::Compact(number) => i128::try_from(number).ok(),
+            Kind::Signed(number) => Some(number),
+            _ => None,
+        }
+    }
+
+    /// Returns a text.
+    pub fn as_str(self) -> Option<&'a str> {
+        if let Kind::Text(text) = self.kind() {
+            Some(text)
+        } else {
+            None
+        }
+    }
+
+    /// Returns a sequence or an array of u8.
+    pub fn as_bytes(self) -> Option<&'a [u8]> {
+        if let Kind::Bytes(bytes) = self.kind() {
+            Some(bytes)
+        } else {
+            None
+        }
+    }
+}
+
+impl fmt::Debug for ValueRef<'_> {
+    fn fmt(&self, f: &mut fmt::Formatter<'_>) -> fmt::Result {
+        write!(f, "ValueRef({} of type {})", self, self.type_id())
+    }
+}
+
+/// The parts of a value.
+#[derive(Clone, Debug)]
+pub struct Children<'a> {
+    rest: ValueRef<'a>,
+    left: u32,
+}
+
+/// Returns how many nodes the subtree of this node has.
+fn size_of(node: &Node) -> usize {
+    match node.kind {
+        sys::SCALEVIEW_NODE_FIELDS | sys::SCALEVIEW_NODE_ARM | sys::SCALEVIEW_NODE_LIST => {
+            usize::try_from(node.low).unwrap_or(usize::MAX)
+        }
+        _ => 1,
+    }
+}
+
+impl<'a> Iterator for Children<'a> {
+    type Item = ValueRef<'a>;
+
+    fn next(&mut self) -> Option<ValueRef<'a>> {
+        self.left = self.left.checked_sub(1)?;
+        let (nodes, rest) = self
+            .rest
+            .nodes
+            .split_at_checked(size_of(self.rest.nodes.first()?))?;
+        self.rest.nodes = rest;
+        Some(ValueRef { nodes, ..self.rest })
+    }
+
+    fn size_hint(&self) -> (usize, Option<usize>) {
+        (self.left as usize, Some(self.left as usize))
+    }
+}
+
+impl ExactSizeIterator for Children<'_> {}
+
+/// The fields of a value with their names.
+#[derive(Clone, Debug)]
+pub struct Fields<'a> {
+    names: slice::Iter<'a, Field>,
+    children: Children<'a>,
+}
+
+impl<'a> Iterator for Fields<'a> {
+    type Item = (Option<&'a str>, ValueRef<'a>);
+
+    fn next(&mut self) -> Option<Self::Item> {
+        let child = self.children.next()?;
+        Some((self.names.next().and_then(Field::name), child))
+    }
+
+    fn size_hint(&self) -> (usize, Option<usize>) {
+        self.children.size_hint()
+    }
+}
+
+impl ExactSizeIterator for Fields<'_> {}

@@ -1,0 +1,40 @@
+//! Registries that several tests use, in scale-info's portable form.
+#![allow(dead_code, reason = "not every test uses all of them")]
+
+/// A u16.
+pub const U16: &[u8] = b"\x04\x00\x00\x00\x05\x04\x00";
+
+/// A u32.
+pub const U32: &[u8] = b"\x04\x00\x00\x00\x05\x05\x00";
+
+/// A u8, and a sequence of it, whose text has two digits for each byte.
+pub const BYTES: &[u8] = b"\x08\x00\x00\x00\x05\x03\x00\x04\x00\x00\x02\x00\x00";
+
+/// A variant with an arm End, and an arm Next whose one field is the variant itself.
+pub const CHAIN: &[u8] =
+    b"\x04\x00\x00\x00\x01\x08\x0cEnd\x00\x00\x00\x10Next\x04\x00\x00\x00\x00\x01\x00\x00";
+
+/// A variant with an arm End, and an arm Next { b: itself, a: u8 }, whose names are out of order;
+/// and a u8.
+pub const NAMED: &[u8] = b"\x08\x00\x00\x00\x01\x08\x0cEnd\x00\x00\x00\
+    \x10Next\x08\x01\x04b\x00\x00\x00\x01\x04a\x04\x00\x00\x01\x00\x00\
+    \x04\x00\x00\x05\x03\x00";
+
+/// The bytes of a value of `CHAIN` of this depth.
+pub fn chain(depth: usize) -> Vec<u8> {
+    [vec![1; depth], vec![0]].concat()
+}
+
+/// The bytes of a value of `NAMED` of this depth.
+pub fn named_chain(depth: usize) -> Vec<u8> {
+    [vec![1; depth], vec![0], vec![7; depth]].concat()
+}
+
+/// Returns a number as a compact integer of two or four bytes.
+pub fn compact(number: u32) -> Vec<u8> {
+    if number < 1 << 14 {
+        (number as u16 * 4 + 1).to_le_bytes().to_vec()
+    } else {
+        (number * 4 + 2).to_le_bytes().to_vec()
+    }
+}

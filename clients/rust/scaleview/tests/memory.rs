@@ -1,0 +1,162 @@
+//! Allocations that fail are errors, and never abort.
+
+mod common;
+
+use common::*;
+use scaleview::{Error, Item, Limits, Registry};
+use std::alloc::{GlobalAlloc, Layout, System};
+use std::cell::Cell;
+use std::fmt::Write;
+use std::ptr;
+
+thread_local! {
+    /// How many allocations of this thread succeed.
+    static LEFT: Cell<usize> = const { Cell::new(usize::MAX) };
+}
+
+/// The system's allocator, which fails after so many allocations. The library has its own.
+struct Limited;
+
+#[global_allocator]
+static LIMITED: Limited = Limited;
+
+// SAFETY: null is a failed allocation, and all others are the system's.
+unsafe impl GlobalAlloc for Limited {
+    unsafe fn alloc(&self, layout: Layout) -> *mut u8 {
+        let left = LEFT.get();
+        if left == 0 {
+            return ptr::null_mut();
+        }
+        LEFT.set(if left == usize::MAX { left } else { left - 1 });
+        // SAFETY: the caller keeps to the same rules.
+        unsafe { System.alloc(layout) }
+    }
+
+    unsafe fn dealloc(&self, at: *mut u8, layout: Layout) {
+        // SAFETY: as above, and the system has allocated it.
+        unsafe { System.dealloc(at, layout) }
+    }
+}
+
+fn with_allocations<T>(count: usize, call: impl FnOnce() -> T) -> T {
+    LEFT.set(count);
+    let result = call();
+    LEFT.set(usize::MAX);
+    result
+}
+
+/// Makes each allocation of a call fail in turn: it returns `Memory`, or does without, and at last
+/// succeeds.
+fn check<T>(what: &str, mut call: impl FnMut() -> Result<T, Error>) {
+    let mut failed = 0;
+    for count in 0..1000 {
+        match with_allocations(count, &mut call) {
+            Ok(_) => {
+                if with_allocations(count + 1, &mut call).is_ok() {
+                    assert!(failed > 0, "{what} needs no memory");
+                    return;
+                }
+            }
+            Err(error) => {
+                assert_eq!(error, Error::Memory, "{what} with {count} allocations");
+                failed += 1;
+            }
+        }
+    }
+    panic!("{what} does not end");
+}
+
+#[test]
+fn no_memory_for_a_text_is_an_error() {
+    let (short, long) = (Registry::open(U16).unwrap(), Registry::open(CHAIN).unwrap());
+    assert_eq!(
+        with_allocations(0, || short.type_line(0)),
+        Err(Error::Memory)
+    );
+    assert_eq!(
+        with_allocations(0, || short.decode_json(0, b"\x01\x00")),
+        Err(Error::Memory)
+    );
+    assert_eq!(
+        with_allocations(0, || short.decode(0, b"\x01\x00")),
+        Err(Error::Memory)
+    );
+    assert_eq!(short.decode_json(0, b"\x01\x00"), Ok("1".to_string()));
+    // The text has no room at first.
+    let limits = Limits::new().depth(1024);
+    for depth in [1000, 1024] {
+        let value = chain(depth);
+        assert_eq!(
+            with_allocations(0, || long.decode_json_within(0, &value, limits)),
+            Err(Error::Memory)
+        );
+        assert_eq!(
+            with_allocations(1, || long.decode_json_within(0, &value, limits)),
+            Err(Error::Memory)
+        );
+        assert_eq!(
+            long.decode_json_within(0, &value, limits)
+                .map(|text| text.len()),
+            Ok(11 * depth + 10)
+        );
+    }
+}
+
+#[test]
+fn each_allocation_may_fail() {
+    check("open", || Registry::open(NAMED));
+    let value = named_chain(40);
+    check("decode", || {
+        Registry::open(NAMED).and_then(|registry| registry.decode(0, &value).map(|_| ()))
+    });
+    check("types", || {
+        Registry::open(NAMED)?
+            .get(0)
+            .ok_or(Error::Memory)?
+            .variants()
+            .map(|variants| variants.len())
+    });
+    let registry = Registry::open(NAMED).unwrap();
+    check("decode_json", || registry.decode_json(0, &value));
+    check("type_line", || registry.type_line(0));
+    let decoded = registry.decode(0, &value).unwrap();
+    check("encode", || registry.encode(0, &decoded));
+    let end = || Item::variant("End", []);
+    let item = Item::named_variant(
+        "Next",
+        [
+            ("a", 7.into()),
+            ("b", Item::variant("Next", [end(), 8.into()])),
+        ],
+    );
+    check("encode an item", || registry.encode(0, &item));
+    let mut session = registry.start(0, Limits::new()).unwrap();
+    session.feed(&value).unwrap();
+    check("finish", || session.finish().map(|_| ()));
+    check("finish_json", || session.finish_json());
+    assert_eq!(session.finish_json(), Ok(decoded.to_string()));
+}
+
+/// A text on the stack, which takes no memory.
+struct Fixed(usize);
+
+impl Write for Fixed {
+    fn write_str(&mut self, text: &str) -> std::fmt::Result {
+        self.0 += text.len();
+        Ok(())
+    }
+}
+
+#[test]
+fn a_value_that_is_shown_may_lack_memory() {
+    let registry = Registry::open(NAMED).unwrap();
+    let value = registry.decode(0, &named_chain(3)).unwrap();
+    let mut failed = 0;
+    while with_allocations(failed, || write!(Fixed(0), "{value}")).is_err() {
+        failed += 1;
+    }
+    assert!(failed > 0 && failed < 20);
+    let mut text = Fixed(0);
+    write!(text, "{value}").unwrap();
+    assert_eq!(text.0, value.to_string().len());
+}

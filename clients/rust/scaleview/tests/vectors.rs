@@ -1,0 +1,232 @@
+//! The tables of test vectors: each registry's answer and types, and each value whole and in
+//! pieces, as JSON and as nodes, and back from them.
+
+use scaleview::{Error, Limits, Progress, Registry, Value};
+use std::collections::HashMap;
+use std::path::PathBuf;
+
+fn table(name: &str) -> String {
+    let path = PathBuf::from(env!("CARGO_MANIFEST_DIR"))
+        .join("../../../crates/vectors/data")
+        .join(name);
+    std::fs::read_to_string(path).expect("a table of vectors")
+}
+
+fn rows(table: &str) -> impl Iterator<Item = Vec<&str>> {
+    let lines = table
+        .split('\n')
+        .filter(|line| !line.is_empty() && !line.starts_with('#'));
+    lines.map(|line| line.split('\t').collect())
+}
+
+fn bytes_of(column: &str) -> Vec<u8> {
+    let digits = if column == "-" { "" } else { column };
+    (0..digits.len())
+        .step_by(2)
+        .map(|at| u8::from_str_radix(&digits[at..at + 2], 16).expect("two digits"))
+        .collect()
+}
+
+/// The error in the words of the tables.
+fn told(error: Error) -> String {
+    match error {
+        Error::Registry { reason, place } => format!("{reason} at {place}"),
+        Error::Value { reason, place } => format!("{reason} at {place}"),
+        Error::UnknownReference { from, to } => format!("UnknownType {to} in type {from}"),
+        Error::UnknownType { .. } => "UnknownType".to_string(),
+        Error::LimitOutOfRange => "LimitOutOfRange".to_string(),
+        error => error.to_string(),
+    }
+}
+
+/// What is to be answered to all bytes of a registry's row: the first error, or its type lines.
+fn wanted_of(row: &[&str], len: usize) -> String {
+    let [_, prefix, _, read, check, lines] = row else {
+        panic!("six columns")
+    };
+    let end = read
+        .split(' ')
+        .next()
+        .and_then(|end| end.parse::<usize>().ok());
+    match end {
+        None => read.to_string(),
+        Some(end) if *prefix == "none" && end < len => format!("TrailingBytes at {end}"),
+        Some(_) if check.starts_with('W') => lines.to_string(),
+        Some(_) => check.to_string(),
+    }
+}
+
+fn lines_of(registry: &Registry) -> String {
+    let lines = registry
+        .types()
+        .map(|one| registry.type_line(one.id()).expect("a type"));
+    let joined = lines
+        .map(|line| line.trim_end().to_string())
+        .collect::<Vec<_>>()
+        .join(" / ");
+    if joined.is_empty() {
+        "-".to_string()
+    } else {
+        joined
+    }
+}
+
+/// Each type's line has its class, kind and path, and its path finds it.
+fn check_types(registry: &Registry) {
+    assert_eq!(registry.types().len(), registry.len() as usize);
+    for (id, one) in (0..).zip(registry.types()) {
+        assert_eq!(
+            (one.id(), registry.find_from(id, one.path().unwrap())),
+            (id, Some(id))
+        );
+        let line = registry.type_line(id).unwrap();
+        let kind = one
+            .primitive()
+            .map_or(format!("{:?}", one.kind()), |primitive| {
+                format!("{primitive:?}")
+            });
+        let wanted = format!("{id} {:?} {} ", one.class(), kind.to_lowercase());
+        assert!(line.starts_with(&wanted), "{line} {wanted}");
+    }
+}
+
+#[test]
+fn registries_are_answered() {
+    let mut count = 0;
+    for row in rows(&table("registries.tsv")) {
+        let bytes = bytes_of(row[2]);
+        let metadata = row[1] == "metadata";
+        let opened = if metadata {
+            Registry::open_metadata(&bytes)
+        } else {
+            Registry::open_raw(&bytes)
+        };
+        if let Ok(registry) = &opened {
+            check_types(registry);
+        }
+        let found = opened.map_or_else(told, |registry| lines_of(&registry));
+        assert_eq!(found, wanted_of(&row, bytes.len()), "{}", row[0]);
+        // The first four bytes say which of both it is, unless they are cut.
+        if metadata == bytes.starts_with(b"meta") {
+            let guessed = Registry::open(&bytes).map_or_else(told, |registry| lines_of(&registry));
+            assert_eq!(guessed, found, "{}", row[0]);
+        }
+        count += 1;
+    }
+    assert!(count > 500);
+}
+
+/// A value's row.
+struct Row<'a> {
+    name: &'a str,
+    id: u32,
+    limits: Limits,
+    bytes: Vec<u8>,
+    answer: &'a str,
+    /// Bytes taken, nodes, and bytes of texts and byte runs.
+    held: (u64, u64, u64),
+    json: &'a str,
+}
+
+impl<'a> Row<'a> {
+    fn of(row: &[&'a str]) -> Row<'a> {
+        let number = |column: usize| row[column].parse::<u64>().expect("a number");
+        Row {
+            name: row[0],
+            id: number(2) as u32,
+            limits: Limits::new().depth(number(3) as u16).bytes(number(4)),
+            bytes: bytes_of(row[5]),
+            answer: row[6],
+            held: (number(7), number(8), number(9)),
+            json: row[10],
+        }
+    }
+
+    /// What a session of the bytes ends with: the value's JSON, or the error.
+    fn end(&self) -> String {
+        match self.answer {
+            "Done" => self.json.to_string(),
+            "More" => format!("Truncated at {}", self.bytes.len()),
+            error => error.to_string(),
+        }
+    }
+
+    /// The same where no byte may follow the value.
+    fn whole(&self) -> String {
+        let taken = self.held.0;
+        if self.answer == "Done" && taken < self.bytes.len() as u64 {
+            format!("TrailingBytes at {taken}")
+        } else {
+            self.end()
+        }
+    }
+
+    /// A value is encoded as its bytes, which are decoded as the same value.
+    fn check_back(&self, registry: &Registry, value: &Value) {
+        let limits = self.limits;
+        assert_eq!(
+            registry.encode_within(self.id, value, limits).as_ref(),
+            Ok(&self.bytes),
+            "{}",
+            self.name
+        );
+        assert_eq!(
+            registry
+                .decode_within(self.id, &self.bytes, limits)
+                .as_ref(),
+            Ok(value),
+            "{}",
+            self.name
+        );
+    }
+
+    fn check_pieces(&self, registry: &Registry, step: usize) {
+        let mut session = match registry.start(self.id, self.limits) {
+            Ok(session) => session,
+            Err(error) => return assert_eq!(told(error), self.answer, "{}", self.name),
+        };
+        let mut fed = session.feed(b"");
+        for piece in self.bytes.chunks(step) {
+            if fed == Ok(Progress::More) {
+                fed = session.feed(piece);
+            }
+        }
+        let held = (session.taken(), session.nodes(), session.text_bytes());
+        assert_eq!(held, self.held, "{} in pieces of {step}", self.name);
+        let found = session
+            .finish()
+            .map_or_else(told, |value| value.to_string());
+        assert_eq!(found, self.end(), "{} in pieces of {step}", self.name);
+        let found = session.finish_json().unwrap_or_else(told);
+        assert_eq!(found, self.end(), "{} in pieces of {step}", self.name);
+    }
+}
+
+#[test]
+fn values_are_answered() {
+    let (registries, values) = (table("registries.tsv"), table("values.tsv"));
+    let by_name: HashMap<&str, Vec<u8>> = rows(&registries)
+        .map(|row| (row[0], bytes_of(row[2])))
+        .collect();
+    let mut count = 0;
+    for row in rows(&values) {
+        let registry = Registry::open_raw(&by_name[row[1]]).expect("a registry");
+        let row = Row::of(&row);
+        let found = registry
+            .decode_json_within(row.id, &row.bytes, row.limits)
+            .unwrap_or_else(told);
+        assert_eq!(found, row.whole(), "{}", row.name);
+        match registry.decode_within(row.id, &row.bytes, row.limits) {
+            Ok(value) => {
+                assert_eq!(value.to_string(), row.whole(), "{}", row.name);
+                row.check_back(&registry, &value);
+            }
+            Err(error) => assert_eq!(told(error), row.whole(), "{}", row.name),
+        }
+        for step in [1, 7, 4096] {
+            row.check_pieces(&registry, step);
+        }
+        count += 1;
+    }
+    assert!(count > 1500);
+}
