@@ -25,7 +25,8 @@ static struct PyModuleDef definition = {
     NULL, NULL,
 };
 
-PyMODINIT_FUNC PyInit__native(void);
+/* The headers of 3.8 don't export it themselves. */
+__attribute__((visibility("default"))) PyMODINIT_FUNC PyInit__native(void);
 
 PyMODINIT_FUNC PyInit__native(void) {
     uint32_t version = scaleview_version();
