@@ -55,9 +55,12 @@ static PyObject *wide_of(struct reader *reader, const scaleview_node *node) {
     return long_of(limbs, 4, info->shape.primitive == SCALEVIEW_I256 && limbs[3] >> 63);
 }
 
+static const char *bytes_at(const struct reader *reader, const scaleview_node *node) {
+    return (const char *)reader->pool + node->low;
+}
+
 /* The value of a node without children. */
 static PyObject *leaf_of(struct reader *reader, const scaleview_node *node) {
-    const char *bytes = (const char *)reader->pool + node->low;
     switch (node->kind) {
     case SCALEVIEW_NODE_EMPTY: return new_ref(Py_None);
     case SCALEVIEW_NODE_BOOL: return new_ref(node->low ? Py_True : Py_False);
@@ -66,8 +69,8 @@ static PyObject *leaf_of(struct reader *reader, const scaleview_node *node) {
     case SCALEVIEW_NODE_UNSIGNED: return unsigned_of(node->low, node->high);
     case SCALEVIEW_NODE_SIGNED: return signed_of(node->low, node->high);
     case SCALEVIEW_NODE_COUNT: return PyObject_CallFunction(empties_class, "K", (unsigned long long)node->low);
-    case SCALEVIEW_NODE_TEXT: return PyUnicode_FromStringAndSize(bytes, (Py_ssize_t)node->high);
-    case SCALEVIEW_NODE_BYTES: return PyBytes_FromStringAndSize(bytes, (Py_ssize_t)node->high);
+    case SCALEVIEW_NODE_TEXT: return PyUnicode_FromStringAndSize(bytes_at(reader, node), (Py_ssize_t)node->high);
+    case SCALEVIEW_NODE_BYTES: return PyBytes_FromStringAndSize(bytes_at(reader, node), (Py_ssize_t)node->high);
     case SCALEVIEW_NODE_WIDE: return wide_of(reader, node);
     default: PyErr_Format(PyExc_SystemError, "the library made a node of the unknown kind %u", node->kind); return NULL;
     }

@@ -259,6 +259,66 @@ class Memory(unittest.TestCase):
             with self.subTest(body.__name__):
                 self.check_stays(body, 300, 4 << 20)
 
+    def test_calls_leave_no_object(self) -> None:
+        registry = Registry((EXAMPLES / "runtime" / "metadata.scale").read_bytes())
+        small = Registry(make.registry_of(*map(make.primitive, make.PRIMITIVES), make.members(), make.sequence(15)))
+        data = (EXAMPLES / "runtime" / "events_block.scale").read_bytes()
+        value = registry.decode(10, data)
+
+        def fail(call: Callable[[], object]) -> None:
+            try:
+                call()
+            except (ValueError, TypeError, OverflowError):
+                return
+            raise AssertionError("no exception")
+
+        calls: list[Callable[[], object]] = [
+            lambda: registry.decode(10, bytearray(data)),
+            lambda: registry.decode(type=10, data=data, depth=60),
+            lambda: registry.decode_many(registry.types[10], iter([data])),
+            lambda: registry.encode(10, value),
+            lambda: registry.decode_json(10, data, depth=100),
+            lambda: Decoder(registry, 10).feed(data),
+            lambda: [(found.path, found.fields, found.variants, str(found), found.kind) for found in registry.types[:20]],
+            lambda: registry.find_all("Option"),
+            lambda: (registry.version, registry.end, repr(registry)),
+            lambda: [small.decode(n, small.encode(n, -(1 << 20) if n > 10 else 5)) for n in (3, 5, 7, 8, 11, 13, 14)],
+            lambda: [small.encode(n, (1 << 127) - 1) for n in (7, 8, 13, 14)],
+            lambda: small.decode(16, small.encode(16, [None] * 5)) == small.encode(1, "a") + small.encode(2, "text"),
+            lambda: fail(lambda: registry.decode(10, data[:-1])),
+            lambda: fail(lambda: registry.decode_many(10, [data, data[:-1]])),
+            lambda: fail(lambda: registry.encode(10, [*value, None])),
+            lambda: fail(lambda: registry.encode(10, [{**value[0], "phase": Variant("None")}])),
+            lambda: fail(lambda: registry.encode(10, [{**value[0], "phase": ("ApplyExtrinsic", [1, 2])}])),
+            lambda: fail(lambda: registry.encode(10, [{**value[0], "other": 5}])),
+            lambda: fail(lambda: registry.encode(10, [{"phase": 5}])),
+            lambda: fail(lambda: registry.encode(10, value, depth=3)),
+            lambda: fail(lambda: registry.encode(10, "text")),
+            lambda: fail(lambda: small.encode(2, "\ud800")),
+            lambda: fail(lambda: small.encode(3, 1 << 200)),
+            lambda: fail(lambda: small.encode(16, [None, 1])),
+            lambda: fail(lambda: registry.decode(10, "text")),  # type: ignore[arg-type]
+            lambda: fail(lambda: registry.decode(1 << 32, b"")),
+            lambda: fail(lambda: registry.decode(small.types[0], b"")),
+            lambda: fail(lambda: registry.decode(0.5, b"")),  # type: ignore[arg-type]
+            lambda: fail(lambda: Registry(b"meta\x0e\x04")),
+            lambda: fail(lambda: Decoder(registry, 100_000)),
+            lambda: fail(lambda: Decoder(registry, 10).finish()),
+            lambda: fail(lambda: Variant("a", 5)),  # type: ignore[arg-type]
+            lambda: repr(value) and value == registry.decode(10, data),
+        ]
+        for number, call in enumerate(calls):
+            with self.subTest(number):
+                self.assertLess(min(self.blocks_left(call) for _ in range(3)), 50)
+
+    def blocks_left(self, call: Callable[[], object]) -> int:
+        gc.collect()
+        before = sys.getallocatedblocks()
+        for _ in range(100):
+            call()
+        gc.collect()
+        return sys.getallocatedblocks() - before
+
     def test_a_variant_in_a_cycle_is_freed(self) -> None:
         class Watched:
             pass
