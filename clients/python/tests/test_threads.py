@@ -309,12 +309,13 @@ class Memory(unittest.TestCase):
         ]
         for number, call in enumerate(calls):
             with self.subTest(number):
-                self.assertLess(min(self.blocks_left(call) for _ in range(3)), 50)
+                self.assertLess(min(self.blocks_left(call) for _ in range(5)), 100)
 
     def blocks_left(self, call: Callable[[], object]) -> int:
+        """The memory blocks that 200 calls leave. Python keeps some for later, so only one a call counts."""
         gc.collect()
         before = sys.getallocatedblocks()
-        for _ in range(100):
+        for _ in range(200):
             call()
         gc.collect()
         return sys.getallocatedblocks() - before
