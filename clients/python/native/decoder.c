@@ -13,6 +13,8 @@ struct decoder {
 
 static PyTypeObject *decoder_class;
 
+static const char torn[] = "the process was forked during a call on a decoder of this registry: open another registry";
+
 static PyObject *decoder_new(PyTypeObject *class, PyObject *args, PyObject *keywords) {
     static char *names[] = {"registry", "type", "depth", "limit", "memory", NULL};
     PyObject *registry, *type_object, *depth = NULL, *limit = NULL, *memory = NULL;
@@ -35,15 +37,20 @@ static PyObject *decoder_new(PyTypeObject *class, PyObject *args, PyObject *keyw
         return NULL;
     }
     enter(self->shared, true);
-    scaleview_start(self->shared->registry, type, limits.depth, limits.limit, limits.memory, &held->session, &answer);
+    bool is_torn = self->shared->is_torn;
+    if (!is_torn)
+        scaleview_start(self->shared->registry, type, limits.depth, limits.limit, limits.memory, &held->session, &answer);
     leave(self->shared);
-    if (answer.code == SCALEVIEW_OK) {
+    if (!is_torn && answer.code == SCALEVIEW_OK) {
         self->held = held;
         return (PyObject *)self;
     }
     free(held);
     Py_DECREF(self);
-    raise_answer(&answer, type, -1);
+    if (is_torn)
+        PyErr_SetString(PyExc_RuntimeError, torn);
+    else
+        raise_answer(&answer, type, -1);
     return NULL;
 }
 
@@ -70,9 +77,13 @@ static void decoder_dealloc(PyObject *object) {
  * before the call ends. */
 static scaleview_session *begin(struct decoder *self) {
     enter(self->shared, true);
-    if (self->held) return &self->held->session;
+    bool is_torn = self->shared->is_torn;
+    if (self->held && !is_torn) return &self->held->session;
     leave(self->shared);
-    PyErr_SetString(PyExc_ValueError, "the decoder is closed");
+    if (is_torn)
+        PyErr_SetString(PyExc_RuntimeError, torn);
+    else
+        PyErr_SetString(PyExc_ValueError, "the decoder is closed");
     return NULL;
 }
 

@@ -15,7 +15,15 @@ static PyObject *reason(PyObject *module, PyObject *number) {
     return read_number("code", number, 32, &code) < 0 ? NULL : reason_of((uint32_t)code);
 }
 
+static PyObject *after_fork(PyObject *module, PyObject *unused) {
+    (void)module;
+    (void)unused;
+    note_fork();
+    return new_ref(Py_None);
+}
+
 static PyMethodDef functions[] = {
+    {"_after_fork", after_fork, METH_NOARGS, NULL},
     {"reason", reason, METH_O, "reason(code, /)\n--\n\nReturns the library's name of a code."},
     {0},
 };

@@ -79,6 +79,8 @@ struct shared {
     /* The calls under way: any number that read, or one that writes. The others wait, first come, first served. */
     size_t readers;
     bool is_written;
+    bool is_torn;   /* the process was forked during a call that wrote, so no session may be used */
+    unsigned forks; /* how often the process had been forked when a call last began */
     struct waiter *first, *last;
     /* Sessions of decoders that are gone, which are freed as soon as no call is under way. */
     struct held *dropped;
@@ -101,6 +103,7 @@ struct shared *retain(struct shared *shared);
 void release(struct shared *shared);
 void enter(struct shared *shared, bool writes);
 void leave(struct shared *shared);
+void note_fork(void);
 void drop(struct shared *shared, struct held *held);
 struct scratch take_scratch(struct shared *shared);
 void give_scratch(struct shared *shared, struct scratch scratch);

@@ -5,6 +5,23 @@
 
 enum { SHALLOW = 64, DEEP_STACK = 1 << 21 };
 
+static unsigned forks;
+
+/* A child process begins, whose one thread makes no call. */
+void note_fork(void) {
+    forks++;
+}
+
+/* Forgets the calls of the parent process, which go on there. */
+static void forget_calls_of_parent(struct shared *shared) {
+    if (shared->forks == forks) return;
+    shared->forks = forks;
+    shared->is_torn |= shared->is_written;
+    shared->is_written = false;
+    shared->readers = 0;
+    shared->first = NULL;
+}
+
 struct shared *open_shared(const uint8_t *bytes, size_t length, bool metadata) {
     struct shared *shared = calloc(1, sizeof *shared);
     if (!shared) return (struct shared *)PyErr_NoMemory();
@@ -18,6 +35,7 @@ struct shared *open_shared(const uint8_t *bytes, size_t length, bool metadata) {
         return NULL;
     }
     shared->references = 1;
+    shared->forks = forks;
     shared->count = (uint32_t)answer.length;
     shared->version = answer.from;
     shared->end = answer.at;
@@ -35,7 +53,7 @@ struct shared *retain(struct shared *shared) {
 }
 
 static void free_dropped(struct shared *shared) {
-    while (shared->dropped) {
+    while (shared->dropped && !shared->is_torn) {
         struct held *held = shared->dropped;
         shared->dropped = held->next;
         scaleview_free(&held->session);
@@ -45,9 +63,10 @@ static void free_dropped(struct shared *shared) {
 
 void release(struct shared *shared) {
     if (--shared->references > 0) return;
-    /* A call under way has a reference, so there is none. */
+    /* A call under way has a reference, so there is none. A torn registry keeps its sessions, and isn't closed. */
+    forget_calls_of_parent(shared);
     free_dropped(shared);
-    scaleview_close(&shared->registry);
+    if (!shared->is_torn) scaleview_close(&shared->registry);
     for (uint32_t type = 0; shared->infos && type < shared->count; type++) free_info(shared->infos[type]);
     free(shared->infos);
     free(shared->scratch.nodes);
@@ -69,6 +88,7 @@ static void admit(struct shared *shared, bool writes) {
 /* Begins a call of the library on a registry or one of its sessions, which `leave` ends. Between the two no function of Python
  * may be called that can run a finalizer, since that could wait for this call. */
 void enter(struct shared *shared, bool writes) {
+    forget_calls_of_parent(shared);
     if (!shared->first && has_room_for(shared, writes)) {
         admit(shared, writes);
         return;
@@ -113,6 +133,7 @@ void leave(struct shared *shared) {
 
 /* Frees a session, at once or after the calls under way: a finalizer doesn't wait. */
 void drop(struct shared *shared, struct held *held) {
+    forget_calls_of_parent(shared);
     held->next = shared->dropped;
     shared->dropped = held;
     if (has_room_for(shared, true)) free_dropped(shared);

@@ -2,11 +2,16 @@
 
 from __future__ import annotations
 
+import contextlib
 import gc
+import os
 import pathlib
+import signal
 import sys
 import threading
+import time
 import unittest
+import warnings
 import weakref
 from typing import Any, Callable
 
@@ -152,6 +157,63 @@ class Threads(unittest.TestCase):
             gc.set_threshold(*threshold)
         gc.collect()
         self.assertEqual(seen, [(4, 3)] * 20)
+
+    def check_fork(self, call: Callable[[], object], in_child: Callable[[], None]) -> None:
+        """The process is forked while another thread makes a call without the interpreter's lock."""
+        is_over = threading.Event()
+
+        def work() -> None:
+            while not is_over.is_set():
+                call()
+
+        thread = threading.Thread(target=work)
+        thread.start()
+        try:
+            for _ in range(10):
+                time.sleep(0.02)
+                with warnings.catch_warnings():
+                    warnings.simplefilter("ignore")
+                    child = os.fork()
+                if child == 0:
+                    signal.alarm(20)
+                    status = 1
+                    try:
+                        in_child()
+                        status = 0
+                    finally:
+                        os._exit(status)
+                self.assertEqual(os.waitpid(child, 0)[1], 0)
+        finally:
+            is_over.set()
+            thread.join()
+
+    @unittest.skipUnless(hasattr(os, "fork"), "there is no fork here")
+    def test_a_forked_process_waits_for_no_thread_of_its_parent(self) -> None:
+        registry = Registry(make.registry_of(make.primitive("u16"), make.sequence(0)))
+        data = make.compact(1 << 20) + bytes(2 << 20)
+        waiting = Decoder(registry, 0)
+
+        def read() -> None:
+            decoder = Decoder(registry, 0)
+            assert (waiting.feed(b"\1\0"), decoder.feed(b"\2\0"), decoder.finish()) == (2, 2, 2)
+            assert registry.decode(0, b"\3\0") == 3
+
+        self.check_fork(lambda: registry.decode_json(1, data), read)
+
+        def use_torn() -> None:
+            """What another thread was writing isn't used, but there may have been no call."""
+            nonlocal waiting
+            assert registry.decode(0, b"\3\0") == 3
+            for call in (lambda: waiting.feed(b"\1\0"), lambda: Decoder(registry, 0)):
+                with contextlib.suppress(RuntimeError):
+                    call()
+            del waiting
+            registry.close()
+
+        def feed() -> None:
+            Decoder(registry, 1).feed(data)
+
+        self.check_fork(feed, use_torn)
 
     def test_a_small_stack_is_enough(self) -> None:
         """128 KiB for every call, whose text is made on another thread where it needs more."""

@@ -23,6 +23,7 @@ The decoder behind this package is proved; the package is not.
 
 from __future__ import annotations
 
+import os
 from typing import Any, Iterator, List, NamedTuple, Optional, Sequence, Tuple, TypeVar, Union, overload
 
 from . import _native
@@ -49,6 +50,9 @@ __all__ = [
 Buffer = Union[bytes, bytearray, memoryview]
 
 _R = TypeVar("_R", bound="Registry")
+
+# In a child process no call of the parent's threads is under way.
+os.register_at_fork(after_in_child=_native._after_fork)
 
 
 class Field(NamedTuple):

@@ -8,6 +8,7 @@ LIMIT: int
 LIBRARY_VERSION: int
 
 def reason(code: int, /) -> str: ...
+def _after_fork() -> None: ...
 
 class Variant:
     __match_args__ = ("name", "fields")
