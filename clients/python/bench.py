@@ -31,7 +31,7 @@ def account_by_hand(data: bytes) -> Dict[str, Any]:
 
 
 Reader = Callable[[bytes, int], Tuple[Any, int]]
-FORMATS = {"u8": "<B", "u16": "<H", "u32": "<I", "u64": "<Q", "i8": "<b", "i16": "<h", "i32": "<i", "i64": "<q", "bool": "<?"}
+FORMATS = dict(zip("u8 u16 u32 u64 i8 i16 i32 i64 bool".split(), "<B <H <I <Q <b <h <i <q <?".split()))
 
 
 def read_compact(data: bytes, at: int) -> Tuple[int, int]:

@@ -72,10 +72,12 @@ def build_extension(target: pathlib.Path) -> None:
     archive, include = _archive(), sysconfig.get_paths()["include"]
     if not (pathlib.Path(include) / "Python.h").is_file():
         _fail(f"{include}/Python.h is missing: install the headers of Python, such as python3-dev")
-    flags = ["-std=c11", "-O3", "-fPIC", "-fvisibility=hidden", "-pthread", "-Wall", "-Wextra", "-DPy_LIMITED_API=0x03080000"]
-    link = ["-bundle", "-undefined", "dynamic_lookup"] if sys.platform == "darwin" else ["-shared", "-Wl,--exclude-libs,ALL"]
+    is_mac = sys.platform == "darwin"
+    flags = ["-std=c11", "-O3", "-fPIC", "-fvisibility=hidden", "-pthread", "-Wall", "-Wextra"]
+    flags += ["-DPy_LIMITED_API=0x03080000", f"-I{_header_folder()}", f"-I{include}"]
+    flags += ["-bundle", "-undefined", "dynamic_lookup"] if is_mac else ["-shared", "-Wl,--exclude-libs,ALL"]
     sources = sorted(str(path) for path in (HERE / "native").glob("*.c"))
-    command = [*_compiler(), *flags, *link, f"-I{_header_folder()}", f"-I{include}", "-o", str(target), *sources, str(archive)]
+    command = [*_compiler(), *flags, "-o", str(target), *sources, str(archive)]
     ended = subprocess.run(command, stdout=subprocess.PIPE, stderr=subprocess.STDOUT, universal_newlines=True)
     if ended.returncode:
         _fail(f"the extension module can't be compiled: {shlex.join(command)}\n{ended.stdout}")

@@ -64,7 +64,8 @@ def sum_balances(registry: Registry, stored: bytes) -> None:
         rows.append(registry.encode(account, {**value, "nonce": number, "data": data}))
     decoded = registry.decode_many(account, rows)
     free = sum(found["data"]["free"] for found in decoded)
-    print(f"{len(decoded)} accounts of {len(rows[0])} bytes have {free} free, and {sum(f['nonce'] for f in decoded)} nonces")
+    nonces = sum(found["nonce"] for found in decoded)
+    print(f"{len(decoded)} accounts of {len(rows[0])} bytes have {free} free, and {nonces} nonces")
     assert free == ACCOUNTS * 10**18 + sum(range(ACCOUNTS))
 
 
@@ -73,8 +74,9 @@ def encode_and_decode(registry: Registry) -> None:
     assert event
     value = Variant("Transfer", {"from": (bytes(32),), "to": (b"\x01" * 32,), "amount": 2**100})
     data = registry.encode(event, value)
-    print(f"a Transfer of 2**100 is encoded in {len(data)} bytes, decoded as {registry.decode(event, data).fields['amount']}")
-    assert registry.decode(event, data) == value
+    again = registry.decode(event, data)
+    print(f"a Transfer of 2**100 is encoded in {len(data)} bytes, and decoded as {again.fields['amount']}")
+    assert again == value
     for wrong in ({**value.fields, "amount": 2**128}, {**value.fields, "to": bytes(32)}):
         try:
             registry.encode(event, (value.name, wrong))

@@ -21,8 +21,8 @@ static PyObject *decoder_new(PyTypeObject *class, PyObject *args, PyObject *keyw
     struct limits limits;
     uint32_t type;
     scaleview_answer answer;
-    if (!PyArg_ParseTupleAndKeywords(args, keywords, "O!O|$OOO:Decoder", names, registry_class, &registry, &type_object, &depth,
-                                     &limit, &memory))
+    if (!PyArg_ParseTupleAndKeywords(args, keywords, "O!O|$OOO:Decoder", names, registry_class, &registry, &type_object,
+                                     &depth, &limit, &memory))
         return NULL;
     if (read_type(registry, type_object, &type) < 0 || read_limits(depth, limit, memory, &limits) < 0) return NULL;
     struct decoder *self = (struct decoder *)PyType_GenericAlloc(class, 0);

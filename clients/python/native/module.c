@@ -39,8 +39,9 @@ __attribute__((visibility("default"))) PyMODINIT_FUNC PyInit__native(void);
 PyMODINIT_FUNC PyInit__native(void) {
     uint32_t version = scaleview_version();
     if (version != SCALEVIEW_VERSION) {
-        PyErr_Format(PyExc_ImportError, "scaleview was built with the header %u and the library %u: run `bash clients/build`, "
-                     "and install it again", SCALEVIEW_VERSION, version);
+        PyErr_Format(PyExc_ImportError,
+                     "scaleview was built with the header %u and the library %u: run `bash clients/build`, and install it again",
+                     SCALEVIEW_VERSION, version);
         return NULL;
     }
     PyObject *module = PyModule_Create(&definition);

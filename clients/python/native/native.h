@@ -1,5 +1,5 @@
-/* What the parts of the extension module share. All functions need the GIL, which also guards all of this data: a module for
- * the limited API isn't loaded by a Python without one. */
+/* What the parts of the extension module share. All functions need the GIL, which also guards all of this data: a module
+ * for the limited API isn't loaded by a Python without one. */
 #ifndef NATIVE_H
 #define NATIVE_H
 #define PY_SSIZE_T_CLEAN

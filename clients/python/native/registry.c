@@ -63,7 +63,8 @@ struct call {
 };
 
 /* Reads the arguments, and takes a reference to the registry, which the caller releases. */
-static int read_call(PyObject *self, PyObject *args, PyObject *keywords, const char *format, char **names, struct call *call) {
+static int read_call(PyObject *self, PyObject *args, PyObject *keywords, const char *format, char **names,
+                     struct call *call) {
     PyObject *type, *depth = NULL, *limit = NULL, *memory = NULL;
     bool is_encoded = names[3] && names[3][0] == 'm';
     PyObject **third = is_encoded ? &memory : &limit, **fourth = is_encoded ? NULL : &memory;
@@ -280,7 +281,7 @@ static PyObject *get_closed(PyObject *self, void *unused) {
 
 static PyGetSetDef getters[] = {
     {"_count", get_count, NULL, NULL, NULL},
-    {"version", get_version, NULL, "The version of the metadata, 14 or 15, or None for a registry that stands alone.", NULL},
+    {"version", get_version, NULL, "The version of the metadata, 14 or 15, or None for a registry alone.", NULL},
     {"end", get_end, NULL, "Where the registry ends, in bytes from the start of the data.", NULL},
     {"closed", get_closed, NULL, "Whether the registry is closed.", NULL},
     {0},

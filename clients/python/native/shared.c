@@ -85,8 +85,8 @@ static void admit(struct shared *shared, bool writes) {
         shared->readers++;
 }
 
-/* Begins a call of the library on a registry or one of its sessions, which `leave` ends. Between the two no function of Python
- * may be called that can run a finalizer, since that could wait for this call. */
+/* Begins a call of the library on a registry or one of its sessions, which `leave` ends. Between the two no function of
+ * Python may be called that can run a finalizer, since that could wait for this call. */
 void enter(struct shared *shared, bool writes) {
     forget_calls_of_parent(shared);
     if (!shared->first && has_room_for(shared, writes)) {
@@ -196,8 +196,8 @@ static void *run_stacked(void *context) {
     return NULL;
 }
 
-/* Makes a call that writes JSON of values of this depth. Up to depth 64 every thread's stack is enough for it; otherwise it is
- * made on a thread with a larger one. No Python function may be called in it. */
+/* Makes a call that writes JSON of values of this depth. Up to depth 64 a stack of 128 KiB is enough for it; otherwise it
+ * is made on a thread with a larger one. No Python function may be called in it. */
 uint32_t with_stack(uint16_t depth, uint32_t (*call)(void *), void *context) {
     struct stacked stacked = {call, context, SCALEVIEW_MEMORY};
     pthread_attr_t attributes;

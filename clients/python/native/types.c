@@ -191,7 +191,8 @@ static int read_info(struct shared *shared, uint32_t type, struct type_info *inf
     if (read_shape(shared, type, &info->shape) != SCALEVIEW_OK) return -1;
     switch (info->shape.kind) {
     case SCALEVIEW_COMPOSITE:
-    case SCALEVIEW_TUPLE: return read_fields((struct text_of){read_part, shared, type, 0, 0}, info->shape.parts, &info->fields);
+    case SCALEVIEW_TUPLE:
+        return read_fields((struct text_of){read_part, shared, type, 0, 0}, info->shape.parts, &info->fields);
     case SCALEVIEW_VARIANT: return read_arms(shared, type, info);
     case SCALEVIEW_COMPACT: return read_target(shared, info);
     default: return 0;
@@ -250,8 +251,9 @@ PyObject *arms_list(struct shared *shared, uint32_t type) {
     const struct type_info *info = info_of(shared, type);
     PyObject *list = info ? PyList_New(0) : NULL;
     for (uint32_t i = 0; list && info->arms && i < info->shape.parts; i++) {
-        PyObject *fields = list_of(&info->arms[i].fields);
-        PyObject *arm = fields ? Py_BuildValue("(OkO)", info->arms[i].name, (unsigned long)info->arms[i].index, fields) : NULL;
+        const struct arm *found = &info->arms[i];
+        PyObject *fields = list_of(&found->fields);
+        PyObject *arm = fields ? Py_BuildValue("(OkO)", found->name, (unsigned long)found->index, fields) : NULL;
         if (!arm || PyList_Append(list, arm) < 0) Py_CLEAR(list);
         Py_XDECREF(fields);
         Py_XDECREF(arm);

@@ -285,9 +285,11 @@ class Encoding(unittest.TestCase):
     registry = Registry(
         make.registry_of(
             make.primitive("u8"), make.sequence(0), make.primitive("str"), make.composite(("id", 0), ("names", 4)),
-            make.sequence(2), make.sequence(3), make.variant(("Set", 0, (("all", 5),)), ("Pair", 1, ((None, 0), (None, 2)))),
+            make.sequence(2), make.sequence(3),
+            make.variant(("Set", 0, (("all", 5),)), ("Pair", 1, ((None, 0), (None, 2)))),
             make.members(), make.sequence(7), make.primitive("bool"), make.primitive("char"), make.array(2, 2),
-            make.array(2, 0), make.bits(0, 7), make.composite((None, 13)), make.variant(), make.composite(("x", 0), ("v", 15)),
+            make.array(2, 0), make.bits(0, 7), make.composite((None, 13)), make.variant(),
+            make.composite(("x", 0), ("v", 15)),
             make.members(1, 16), make.variant(("Good", 0, ()), ("Bad", 1, ((None, 0), (None, 15)))),
         )
     )
@@ -526,7 +528,12 @@ class Arguments(unittest.TestCase):
         with self.assertRaisesRegex(Refused, "^limits: LimitOutOfRange$"):
             registry.encode(0, 2, depth=1025)
         for number in ((1 << 32) - 1, 1):
-            for unknown in (lambda: registry.decode(number, b""), lambda: registry.encode(number, 1), lambda: Decoder(registry, number)):
+            calls: list[Callable[[], object]] = [
+                lambda: registry.decode(number, b""),
+                lambda: registry.encode(number, 1),
+                lambda: Decoder(registry, number),
+            ]
+            for unknown in calls:
                 with self.assertRaisesRegex(Refused, f"^type: UnknownType {number}$"):
                     unknown()
         self.assertEqual(registry.decode(0, b"\x02\x00", depth=1024, limit=1 << 40, memory=(1 << 64) - 1), 2)
@@ -729,7 +736,8 @@ class Answers(unittest.TestCase):
         with tempfile.TemporaryDirectory() as folder:
             path = pathlib.Path(folder) / "pools.py"
             path.write_text(program)
-            printed = subprocess.run([sys.executable, str(path)], stdout=subprocess.PIPE, universal_newlines=True, timeout=120)
+            command = [sys.executable, str(path)]
+            printed = subprocess.run(command, stdout=subprocess.PIPE, universal_newlines=True, timeout=120)
         self.assertEqual(printed.stdout, "[25185, 25699]\nvalue: Truncated at 1\n1 Truncated\n")
 
 
@@ -770,10 +778,13 @@ class Building(unittest.TestCase):
             )
             self.assertEqual(built.returncode, 0, built.stderr)
             sources = pathlib.Path(folder) / "scaleview-0.2.0"
-            archive = str(CLIENT.parent / "out") if "SCALEVIEW_LIB_DIR" not in os.environ else os.environ["SCALEVIEW_LIB_DIR"]
+            archive = os.environ.get("SCALEVIEW_LIB_DIR", str(CLIENT.parent / "out"))
             ended = subprocess.run(
                 [sys.executable, "build_backend.py", "made"],
-                cwd=sources, env={**os.environ, "SCALEVIEW_LIB_DIR": archive}, stderr=subprocess.PIPE, universal_newlines=True,
+                cwd=sources,
+                env={**os.environ, "SCALEVIEW_LIB_DIR": archive},
+                stderr=subprocess.PIPE,
+                universal_newlines=True,
             )
             self.assertEqual((ended.returncode, ended.stderr), (0, ""))
             self.assertTrue((sources / "made" / "scaleview" / "_native.abi3.so").exists())
@@ -781,7 +792,8 @@ class Building(unittest.TestCase):
     def test_what_is_missing_is_explained_in_a_line(self) -> None:
         with tempfile.TemporaryDirectory() as folder:
             program = f"import build_backend; build_backend.build_wheel({folder!r})"
-            for variables, word in (({"SCALEVIEW_LIB_DIR": folder}, "libscaleview.a is missing"), ({"CC": "no-cc"}, "`no-cc`")):
+            missing = [({"SCALEVIEW_LIB_DIR": folder}, "libscaleview.a is missing"), ({"CC": "no-cc"}, "`no-cc`")]
+            for variables, word in missing:
                 ended = self.run_backend(program, **variables)
                 self.assertEqual(ended.returncode, 1)
                 (line,) = ended.stderr.splitlines()
