@@ -8,7 +8,7 @@ import argparse
 import pathlib
 import sys
 
-from scaleview import DEPTH, Refused, Registry
+from scaleview import DEPTH, Decoder, Refused, Registry
 
 
 def parse() -> argparse.Namespace:
@@ -27,30 +27,30 @@ def parse() -> argparse.Namespace:
 
 
 def decode_in_pieces(registry: Registry, type_id: int, value: bytes, depth: int, step: int) -> str:
-    with registry.start(type_id, depth=depth) as session:
-        for at in range(0, len(value), step):
-            used = session.feed(value[at : at + step])
-            if used is not None:
-                if at + used < len(value):
-                    sys.exit(f"scaleview: value: TrailingBytes at {at + used}")
-                break
-        return session.finish_text()
+    decoder = Decoder(registry, type_id, depth=depth)
+    for at in range(0, len(value), step):
+        used = decoder.feed(value[at : at + step])
+        if used is not None:
+            if at + used < len(value):
+                sys.exit(f"scaleview: value: TrailingBytes at {at + used}")
+            break
+    return decoder.finish_json()
 
 
 def main() -> None:
     words = parse()
     try:
-        with Registry(words.file.read_bytes(), metadata=words.metadata) as registry:
-            if words.command == "types":
-                print("".join(registry.type_line(type_id) for type_id in range(len(registry))), end="")
-                return
-            value = words.value.read_bytes()
-            if words.pieces:
-                print(decode_in_pieces(registry, words.id, value, words.depth, words.pieces))
-            else:
-                print(registry.decode_text(words.id, value, depth=words.depth))
+        registry = Registry(words.file.read_bytes(), metadata=words.metadata)
+        if words.command == "types":
+            print("".join(f"{found}\n" for found in registry.types), end="")
+            return
+        value = words.value.read_bytes()
+        if words.pieces:
+            print(decode_in_pieces(registry, words.id, value, words.depth, words.pieces))
+        else:
+            print(registry.decode_json(words.id, value, depth=words.depth))
     except Refused as refused:
-        sys.exit(f"scaleview: {refused}" + (f" {words.id}" if refused.part == "type" else ""))
+        sys.exit(f"scaleview: {refused}")
     except OverflowError as error:
         print(f"scaleview: {error}", file=sys.stderr)
         sys.exit(2)

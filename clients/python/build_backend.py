@@ -1,0 +1,174 @@
+"""Builds the package by PEP 517 with a C compiler and nothing else.
+
+The extension module is one file for all versions of CPython from 3.8 on. It links `libscaleview.a`, which
+`bash clients/build` makes in clients/out; SCALEVIEW_LIB_DIR names another folder. CC names the compiler.
+
+    python3 build_backend.py FOLDER
+
+builds the package itself in a folder, which PYTHONPATH may then name.
+"""
+
+from __future__ import annotations
+
+import base64
+import gzip
+import hashlib
+import io
+import os
+import pathlib
+import shlex
+import shutil
+import subprocess
+import sys
+import sysconfig
+import tarfile
+import tempfile
+import zipfile
+from typing import Any, Dict, List, Optional, Tuple
+
+HERE = pathlib.Path(__file__).resolve().parent
+NAME, VERSION = "scaleview", "0.2.0"
+EXTENSION = "_native.abi3.so"
+# The oldest date that a zip file can have, so that equal sources make equal wheels.
+DATE = (1980, 1, 1, 0, 0, 0)
+METADATA = f"""\
+Metadata-Version: 2.1
+Name: {NAME}
+Version: {VERSION}
+Summary: A fast SCALE codec for Polkadot and Substrate, around a proved decoder
+Requires-Python: >=3.8
+Description-Content-Type: text/markdown
+
+"""
+
+
+def _fail(line: str) -> None:
+    sys.exit(f"scaleview: {line}")
+
+
+def _header_folder() -> pathlib.Path:
+    """The folder of scaleview.h: beside the sources in an sdist, and else that of the client in C."""
+    beside = HERE / "native"
+    return beside if (beside / "scaleview.h").exists() else HERE.parent / "c"
+
+
+def _archive() -> pathlib.Path:
+    named = os.environ.get("SCALEVIEW_LIB_DIR")
+    archive = (pathlib.Path(named) if named else HERE.parent / "out") / "libscaleview.a"
+    if not archive.is_file():
+        _fail(f"{archive} is missing: run `bash clients/build`, or set SCALEVIEW_LIB_DIR to the folder of libscaleview.a")
+    return archive.resolve()
+
+
+def _compiler() -> List[str]:
+    words = shlex.split(os.environ.get("CC", "cc"))
+    if not words or not shutil.which(words[0]):
+        _fail(f"there is no C compiler `{' '.join(words)}`: install one, or set CC; `bash clients/build` needs one as well")
+    return words
+
+
+def build_extension(target: pathlib.Path) -> None:
+    """Compiles the extension module."""
+    archive, include = _archive(), sysconfig.get_paths()["include"]
+    if not (pathlib.Path(include) / "Python.h").is_file():
+        _fail(f"{include}/Python.h is missing: install the headers of Python, such as python3-dev")
+    is_mac = sys.platform == "darwin"
+    flags = ["-std=c11", "-O3", "-fPIC", "-fvisibility=hidden", "-pthread", "-Wall", "-Wextra"]
+    flags += ["-DPy_LIMITED_API=0x03080000", f"-I{_header_folder()}", f"-I{include}"]
+    flags += ["-bundle", "-undefined", "dynamic_lookup"] if is_mac else ["-shared", "-Wl,--exclude-libs,ALL"]
+    sources = sorted(str(path) for path in (HERE / "native").glob("*.c"))
+    command = [*_compiler(), *flags, "-o", str(target), *sources, str(archive)]
+    ended = subprocess.run(command, stdout=subprocess.PIPE, stderr=subprocess.STDOUT, universal_newlines=True)
+    if ended.returncode:
+        _fail(f"the extension module can't be compiled: {shlex.join(command)}\n{ended.stdout}")
+
+
+def _package_files() -> List[pathlib.Path]:
+    folder = HERE / "src" / NAME
+    return sorted(path for path in folder.iterdir() if path.suffix in (".py", ".pyi") or path.name == "py.typed")
+
+
+def build_package(folder: pathlib.Path) -> None:
+    """Makes the package in a folder, without pip."""
+    package = folder / NAME
+    package.mkdir(parents=True, exist_ok=True)
+    for path in _package_files():
+        shutil.copyfile(path, package / path.name)
+    # A process that has the old file open keeps it.
+    build_extension(package / "_native.new")
+    os.replace(package / "_native.new", package / EXTENSION)
+
+
+def _tag() -> str:
+    platform = sysconfig.get_platform().replace("-", "_").replace(".", "_")
+    return f"cp38-abi3-{platform}"
+
+
+def _metadata() -> bytes:
+    return (METADATA + (HERE / "README.md").read_text(encoding="utf-8")).encode()
+
+
+def _wheel_text() -> bytes:
+    return f"Wheel-Version: 1.0\nGenerator: scaleview {VERSION}\nRoot-Is-Purelib: false\nTag: {_tag()}\n".encode()
+
+
+def _digest(data: bytes) -> str:
+    return "sha256=" + base64.urlsafe_b64encode(hashlib.sha256(data).digest()).rstrip(b"=").decode()
+
+
+def _write_wheel(folder: str, files: List[Tuple[str, bytes]]) -> str:
+    name, info = f"{NAME}-{VERSION}-{_tag()}.whl", f"{NAME}-{VERSION}.dist-info"
+    files = [*files, (f"{info}/METADATA", _metadata()), (f"{info}/WHEEL", _wheel_text())]
+    lines = [f"{path},{_digest(data)},{len(data)}" for path, data in files] + [f"{info}/RECORD,,"]
+    files.append((f"{info}/RECORD", ("\n".join(lines) + "\n").encode()))
+    with zipfile.ZipFile(os.path.join(folder, name), "w", zipfile.ZIP_DEFLATED) as wheel:
+        for path, data in files:
+            entry = zipfile.ZipInfo(path, DATE)
+            entry.compress_type = zipfile.ZIP_DEFLATED
+            entry.external_attr = (0o755 if path.endswith(".so") else 0o644) << 16
+            wheel.writestr(entry, data)
+    return name
+
+
+def build_wheel(
+    wheel_directory: str, config_settings: Optional[Dict[str, Any]] = None, metadata_directory: Optional[str] = None
+) -> str:
+    files = [(f"{NAME}/{path.name}", path.read_bytes()) for path in _package_files()]
+    with tempfile.TemporaryDirectory() as made:
+        extension = pathlib.Path(made) / EXTENSION
+        build_extension(extension)
+        files.append((f"{NAME}/{EXTENSION}", extension.read_bytes()))
+    return _write_wheel(wheel_directory, files)
+
+
+def build_editable(
+    wheel_directory: str, config_settings: Optional[Dict[str, Any]] = None, metadata_directory: Optional[str] = None
+) -> str:
+    """The package's sources stay where they are, and the extension module is built beside them."""
+    source = HERE / "src"
+    build_extension(source / NAME / EXTENSION)
+    return _write_wheel(wheel_directory, [(f"_{NAME}.pth", f"{source}\n".encode())])
+
+
+def build_sdist(sdist_directory: str, config_settings: Optional[Dict[str, Any]] = None) -> str:
+    """The sources with scaleview.h, but without libscaleview.a, whose folder SCALEVIEW_LIB_DIR has to name."""
+    root = f"{NAME}-{VERSION}"
+    files = {f"src/{NAME}/{path.name}": path.read_bytes() for path in _package_files()}
+    files.update({f"native/{path.name}": path.read_bytes() for path in sorted((HERE / "native").iterdir())})
+    files["native/scaleview.h"] = (_header_folder() / "scaleview.h").read_bytes()
+    files.update({name: (HERE / name).read_bytes() for name in ("README.md", "build_backend.py", "pyproject.toml")})
+    files["PKG-INFO"] = _metadata()
+    name = f"{root}.tar.gz"
+    with open(os.path.join(sdist_directory, name), "wb") as out, gzip.GzipFile("", "wb", fileobj=out, mtime=0) as packed:
+        with tarfile.open(fileobj=packed, mode="w", format=tarfile.PAX_FORMAT) as tar:
+            for path, data in sorted(files.items()):
+                entry = tarfile.TarInfo(f"{root}/{path}")
+                entry.size = len(data)
+                tar.addfile(entry, io.BytesIO(data))
+    return name
+
+
+if __name__ == "__main__":
+    if len(sys.argv) != 2:
+        _fail("usage: build_backend.py FOLDER")
+    build_package(pathlib.Path(sys.argv[1]))

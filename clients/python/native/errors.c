@@ -1,0 +1,129 @@
+/* Exceptions, numbers and buffers. */
+#include "native.h"
+
+PyObject *refused_class, *encode_error_class, *out_of_memory_class, *empties_class;
+
+int import_classes(void) {
+    PyObject *module = PyImport_ImportModule("scaleview._base");
+    if (!module) return -1;
+    refused_class = PyObject_GetAttrString(module, "Refused");
+    encode_error_class = PyObject_GetAttrString(module, "EncodeError");
+    out_of_memory_class = PyObject_GetAttrString(module, "OutOfMemory");
+    empties_class = PyObject_GetAttrString(module, "Empties");
+    Py_DECREF(module);
+    return refused_class && encode_error_class && out_of_memory_class && empties_class ? 0 : -1;
+}
+
+PyObject *reason_of(uint32_t code) {
+    scaleview_answer answer;
+    uint8_t name[32];
+    if (scaleview_reason(code, name, sizeof name, &answer) != SCALEVIEW_OK) answer.length = 0;
+    return PyUnicode_DecodeASCII((const char *)name, (Py_ssize_t)answer.length, NULL);
+}
+
+static PyObject *number_or_none(bool is_there, unsigned long long number) {
+    return is_there ? PyLong_FromUnsignedLongLong(number) : new_ref(Py_None);
+}
+
+static void raise_new(PyObject *class, PyObject *arguments) {
+    PyObject *error = arguments ? PyObject_CallObject(class, arguments) : NULL;
+    Py_XDECREF(arguments);
+    if (error) PyErr_SetObject(class, error);
+    Py_XDECREF(error);
+}
+
+static const char *part_of(uint32_t code) {
+    if (code == SCALEVIEW_REGISTRY_UNKNOWN_REFERENCE) return "check";
+    if (code >= 101 && code < 200) return "registry";
+    if (code == SCALEVIEW_LIMIT_OUT_OF_RANGE) return "limits";
+    return code >= 300 ? "value" : "type";
+}
+
+/* Raises what a call answered: on this type, and on this item of several if it isn't negative. */
+void raise_answer(const scaleview_answer *answer, uint32_t type, Py_ssize_t item) {
+    uint32_t code = answer->code;
+    if (code == SCALEVIEW_MEMORY) {
+        PyErr_SetString(out_of_memory_class, "an allocation failed, or would have exceeded `memory`");
+        return;
+    }
+    const char *part = part_of(code);
+    bool has_types = code == SCALEVIEW_REGISTRY_UNKNOWN_REFERENCE, is_unknown = code == SCALEVIEW_UNKNOWN_TYPE;
+    bool has_place = !has_types && (code < 200 || code >= 300);
+    raise_new(refused_class, Py_BuildValue("(INsNNNN)", code, reason_of(code), part, number_or_none(has_place, answer->at),
+                                           number_or_none(has_types, answer->from),
+                                           number_or_none(has_types || is_unknown, is_unknown ? type : answer->at),
+                                           number_or_none(item >= 0, (unsigned long long)item)));
+}
+
+/* Raises the refusal of a node, which has this path. */
+void raise_rejected_node(const scaleview_answer *answer, PyObject *path) {
+    raise_new(encode_error_class, Py_BuildValue("(INON)", answer->code, reason_of(answer->code), path,
+                                                PyLong_FromUnsignedLongLong(answer->at)));
+}
+
+/* Reads a number of at most so many bits. */
+int read_number(const char *name, PyObject *object, unsigned bits, uint64_t *number) {
+    PyObject *index = PyNumber_Index(object);
+    if (!index) return -1;
+    *number = PyLong_AsUnsignedLongLong(index);
+    Py_DECREF(index);
+    bool has_failed = *number == UINT64_MAX && PyErr_Occurred();
+    if (has_failed && !PyErr_ExceptionMatches(PyExc_OverflowError)) return -1;
+    if (!has_failed && (bits == 64 || *number >> bits == 0)) return 0;
+    PyErr_Clear();
+    PyErr_Format(PyExc_OverflowError, "%s is out of range: it has to be in 0 to 2**%u - 1", name, bits);
+    return -1;
+}
+
+/* Reads a type's position from an int, or from a Type of this registry. */
+int read_type(PyObject *registry, PyObject *object, uint32_t *type) {
+    uint64_t number;
+    if (!PyLong_Check(object)) {
+        PyObject *owner = PyObject_GetAttrString(object, "registry");
+        bool is_other = owner && owner != registry;
+        Py_XDECREF(owner);
+        if (is_other) {
+            PyErr_SetString(PyExc_ValueError, "the type belongs to another registry");
+            return -1;
+        }
+        PyErr_Clear();
+    }
+    if (read_number("type", object, 32, &number) < 0) return -1;
+    *type = (uint32_t)number;
+    return 0;
+}
+
+/* Reads the limits of a call; NULL stands for the usual one. */
+int read_limits(PyObject *depth, PyObject *limit, PyObject *memory, struct limits *limits) {
+    uint64_t number = DEPTH;
+    *limits = (struct limits){DEPTH, LIMIT, 0};
+    if (depth && read_number("depth", depth, 16, &number) < 0) return -1;
+    limits->depth = (uint16_t)number;
+    if (limit && read_number("limit", limit, 64, &limits->limit) < 0) return -1;
+    return memory ? read_number("memory", memory, 64, &limits->memory) : 0;
+}
+
+/* Returns an object that keeps the bytes of a buffer, and where they are. Bytes stay where they are, also a subclass's, whose
+ * own `__len__` isn't asked. Others are copied, since they may change during a call. */
+PyObject *bytes_of(PyObject *data, const uint8_t **bytes, size_t *length) {
+    PyObject *kept;
+    if (PyBytes_Check(data)) {
+        kept = new_ref(data);
+    } else {
+        PyObject *view = PyMemoryView_FromObject(data);
+        if (!view) {
+            if (!PyErr_ExceptionMatches(PyExc_TypeError)) return NULL;
+            PyErr_Clear();
+            PyObject *class = PyObject_GetAttrString((PyObject *)Py_TYPE(data), "__name__");
+            if (class) PyErr_Format(PyExc_TypeError, "expected bytes or another object with a buffer, not %U", class);
+            Py_XDECREF(class);
+            return NULL;
+        }
+        kept = PyObject_CallMethod(view, "tobytes", NULL);
+        Py_DECREF(view);
+        if (!kept) return NULL;
+    }
+    *bytes = (const uint8_t *)PyBytes_AsString(kept);
+    *length = (size_t)PyBytes_Size(kept);
+    return kept;
+}

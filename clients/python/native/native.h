@@ -1,0 +1,155 @@
+/* What the parts of the extension module share. All functions need the GIL, which also guards all of this data: a module
+ * for the limited API isn't loaded by a Python without one. */
+#ifndef NATIVE_H
+#define NATIVE_H
+#define PY_SSIZE_T_CLEAN
+#ifndef Py_LIMITED_API
+#define Py_LIMITED_API 0x03080000
+#endif
+#include <Python.h>
+#include "scaleview.h"
+#include <pythread.h>
+#include <stdlib.h>
+#include <string.h>
+#include <structmember.h>
+
+enum {
+    DEPTH = 64,             /* the depth where no other is named */
+    LIMIT = 1 << 24,        /* the limit of bytes where no other is named */
+    LONG_INPUT = 1 << 12,   /* calls on this many bytes release the GIL */
+    KEPT_SCRATCH = 1 << 20, /* scratch memory above this many bytes is freed after a call */
+};
+
+/* The fields of a composite or of an arm, or the members of a tuple. */
+struct fields {
+    uint32_t count;
+    bool are_named;   /* all have names, which differ, and there is at least one */
+    PyObject **names; /* NULL for a field without a name */
+    uint32_t *types;
+};
+
+/* An arm of a variant. */
+struct arm {
+    PyObject *name;
+    uint32_t index;
+    bool is_shadowed; /* an earlier arm has its index */
+    struct fields fields;
+};
+
+/* What the registry says about a type, read when it is first asked for. */
+struct type_info {
+    scaleview_type_shape shape;
+    struct fields fields;
+    struct arm *arms;
+    PyObject *arm_positions; /* a dict by name of the first arms that aren't shadowed */
+    uint32_t target;         /* the primitive that a compact wraps, or NO_TARGET */
+};
+
+#define NO_TARGET UINT32_MAX
+
+/* A thread that waits for its turn on a registry. */
+struct waiter {
+    PyThread_type_lock lock;
+    bool writes;
+    struct waiter *next;
+};
+
+/* A session's handle. */
+struct held {
+    scaleview_session session;
+    struct held *next;
+};
+
+/* Memory for the nodes and bytes of a call. */
+struct scratch {
+    scaleview_node *nodes;
+    size_t node_room;
+    uint8_t *bytes;
+    size_t byte_room;
+};
+
+/* An open registry. The Registry object, each Decoder and each call under way hold a reference. */
+struct shared {
+    scaleview_registry registry;
+    size_t references;
+    uint32_t count, version;
+    uint64_t end;
+    struct type_info **infos; /* one for each type, or NULL */
+    struct scratch scratch;
+    /* The calls under way: any number that read, or one that writes. The others wait, first come, first served. */
+    size_t readers;
+    bool is_written;
+    bool is_torn;   /* the process was forked during a call that wrote, so no session may be used */
+    unsigned forks; /* how often the process had been forked when a call last began */
+    struct waiter *first, *last;
+    /* Sessions of decoders that are gone, which are freed as soon as no call is under way. */
+    struct held *dropped;
+};
+
+static inline PyObject *new_ref(PyObject *object) {
+    Py_INCREF(object);
+    return object;
+}
+
+/* The depth and the limits of a call. */
+struct limits {
+    uint16_t depth;
+    uint64_t limit, memory;
+};
+
+/* shared.c: registries, turns and memory. */
+struct shared *open_shared(const uint8_t *bytes, size_t length, bool metadata);
+struct shared *retain(struct shared *shared);
+void release(struct shared *shared);
+void enter(struct shared *shared, bool writes);
+void leave(struct shared *shared);
+void note_fork(void);
+void drop(struct shared *shared, struct held *held);
+struct scratch take_scratch(struct shared *shared);
+void give_scratch(struct shared *shared, struct scratch scratch);
+int make_room(struct scratch *scratch, size_t nodes, size_t bytes);
+uint32_t with_stack(uint16_t depth, uint32_t (*call)(void *), void *context);
+
+/* errors.c: exceptions, numbers and buffers. */
+extern PyObject *refused_class, *encode_error_class, *out_of_memory_class, *empties_class;
+int import_classes(void);
+void raise_answer(const scaleview_answer *answer, uint32_t type, Py_ssize_t item);
+void raise_rejected_node(const scaleview_answer *answer, PyObject *path);
+PyObject *reason_of(uint32_t code);
+int read_number(const char *name, PyObject *object, unsigned bits, uint64_t *number);
+int read_type(PyObject *registry, PyObject *object, uint32_t *type);
+int read_limits(PyObject *depth, PyObject *limit, PyObject *memory, struct limits *limits);
+PyObject *bytes_of(PyObject *data, const uint8_t **bytes, size_t *length);
+
+/* types.c: what a registry says about its types. */
+extern const char *const primitive_names[15];
+const struct type_info *info_of(struct shared *shared, uint32_t type);
+void free_info(struct type_info *info);
+PyObject *shape_tuple(struct shared *shared, uint32_t type);
+PyObject *fields_list(struct shared *shared, uint32_t type);
+PyObject *arms_list(struct shared *shared, uint32_t type);
+PyObject *path_of(struct shared *shared, uint32_t type);
+PyObject *line_of(struct shared *shared, uint32_t type);
+PyObject *find_path(struct shared *shared, uint32_t from, PyObject *path);
+
+/* variant.c: the class of variants' values. */
+extern PyTypeObject *variant_class;
+int make_variant_class(PyObject *module);
+PyObject *variant_of(PyObject *name, PyObject *fields);
+PyObject *variant_name(PyObject *variant);
+PyObject *variant_fields(PyObject *variant);
+
+/* values.c: values of nodes. */
+PyObject *value_of(struct shared *shared, const scaleview_node *nodes, size_t count, const uint8_t *pool);
+
+/* encode.c: nodes of values. */
+PyObject *encode_value(struct shared *shared, uint32_t type, PyObject *value, const struct limits *limits);
+
+/* registry.c and decoder.c: the two classes. */
+extern PyTypeObject *registry_class;
+int make_registry_class(PyObject *module);
+int make_decoder_class(PyObject *module);
+struct shared *shared_of(PyObject *registry);
+int add_class(PyObject *module, PyTypeObject **made, PyType_Spec *spec, const char *name);
+
+#endif

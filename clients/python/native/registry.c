@@ -1,0 +1,358 @@
+/* The class of registries. */
+#include "native.h"
+
+PyTypeObject *registry_class;
+
+struct registry {
+    PyObject_HEAD
+    struct shared *shared; /* NULL once it is closed */
+};
+
+/* Returns a registry's data with a reference of the caller's, or NULL with an exception. */
+struct shared *shared_of(PyObject *registry) {
+    struct shared *shared = ((struct registry *)registry)->shared;
+    if (shared) return retain(shared);
+    PyErr_SetString(PyExc_ValueError, "the registry is closed");
+    return NULL;
+}
+
+static PyObject *registry_new(PyTypeObject *class, PyObject *args, PyObject *keywords) {
+    static char *names[] = {"data", "metadata", NULL};
+    PyObject *data, *metadata = Py_None;
+    const uint8_t *bytes;
+    size_t length;
+    if (!PyArg_ParseTupleAndKeywords(args, keywords, "O|$O:Registry", names, &data, &metadata)) return NULL;
+    PyObject *kept = bytes_of(data, &bytes, &length);
+    if (!kept) return NULL;
+    int is_metadata = metadata == Py_None ? length >= 4 && !memcmp(bytes, "meta", 4) : PyObject_IsTrue(metadata);
+    struct shared *shared = is_metadata < 0 ? NULL : open_shared(bytes, length, is_metadata);
+    Py_DECREF(kept);
+    if (!shared) return NULL;
+    allocfunc alloc = (allocfunc)PyType_GetSlot(class, Py_tp_alloc);
+    PyObject *self = alloc(class, 0);
+    if (self)
+        ((struct registry *)self)->shared = shared;
+    else
+        release(shared);
+    return self;
+}
+
+static PyObject *registry_close(PyObject *self, PyObject *unused) {
+    struct shared *shared = ((struct registry *)self)->shared;
+    (void)unused;
+    ((struct registry *)self)->shared = NULL;
+    if (shared) release(shared);
+    return new_ref(Py_None);
+}
+
+static void registry_dealloc(PyObject *self) {
+    PyTypeObject *class = Py_TYPE(self);
+    freefunc free_self = (freefunc)PyType_GetSlot(class, Py_tp_free);
+    struct shared *shared = ((struct registry *)self)->shared;
+    if (shared) release(shared);
+    free_self(self);
+    Py_DECREF(class);
+}
+
+/* The arguments of a call on a registry. */
+struct call {
+    struct shared *shared;
+    PyObject *value; /* borrowed */
+    uint32_t type;
+    struct limits limits;
+};
+
+/* Reads the arguments, and takes a reference to the registry, which the caller releases. */
+static int read_call(PyObject *self, PyObject *args, PyObject *keywords, const char *format, char **names,
+                     struct call *call) {
+    PyObject *type, *depth = NULL, *limit = NULL, *memory = NULL;
+    bool is_encoded = names[3] && names[3][0] == 'm';
+    PyObject **third = is_encoded ? &memory : &limit, **fourth = is_encoded ? NULL : &memory;
+    if (!keywords && PyTuple_Size(args) == 2) {
+        type = PyTuple_GetItem(args, 0);
+        call->value = PyTuple_GetItem(args, 1);
+    } else if (!PyArg_ParseTupleAndKeywords(args, keywords, format, names, &type, &call->value, &depth, third, fourth)) {
+        return -1;
+    }
+    if (read_type(self, type, &call->type) < 0 || read_limits(depth, limit, memory, &call->limits) < 0) return -1;
+    call->shared = shared_of(self);
+    return call->shared ? 0 : -1;
+}
+
+static char *decode_names[] = {"type", "data", "depth", "limit", "memory", NULL};
+
+/* Decodes one value. */
+static PyObject *decode_one(const struct call *call, PyObject *data, Py_ssize_t item) {
+    struct shared *shared = call->shared;
+    const uint8_t *bytes;
+    size_t length;
+    PyObject *kept = bytes_of(data, &bytes, &length), *value = NULL;
+    if (!kept) return NULL;
+    struct scratch scratch = take_scratch(shared);
+    size_t nodes = length / 4 + 32;
+    for (;;) {
+        scaleview_answer answer;
+        if (make_room(&scratch, nodes, length + 1) < 0) break;
+        enter(shared, false);
+        PyThreadState *state = length >= LONG_INPUT ? PyEval_SaveThread() : NULL;
+        uint32_t code = scaleview_decode_nodes(shared->registry, call->type, call->limits.depth, call->limits.limit,
+                                               call->limits.memory, bytes, length, scratch.nodes, scratch.node_room,
+                                               scratch.bytes, scratch.byte_room, &answer);
+        if (state) PyEval_RestoreThread(state);
+        leave(shared);
+        if (code == SCALEVIEW_NO_ROOM) {
+            nodes = (size_t)answer.length;
+            if (answer.at <= length || make_room(&scratch, 0, (size_t)answer.at) == 0) continue;
+        } else if (code == SCALEVIEW_OK) {
+            value = value_of(shared, scratch.nodes, (size_t)answer.length, scratch.bytes);
+        } else {
+            raise_answer(&answer, call->type, item);
+        }
+        break;
+    }
+    give_scratch(shared, scratch);
+    Py_DECREF(kept);
+    return value;
+}
+
+static PyObject *registry_decode(PyObject *self, PyObject *args, PyObject *keywords) {
+    struct call call;
+    if (read_call(self, args, keywords, "OO|$OOO:decode", decode_names, &call) < 0) return NULL;
+    PyObject *value = decode_one(&call, call.value, -1);
+    release(call.shared);
+    return value;
+}
+
+static PyObject *registry_decode_many(PyObject *self, PyObject *args, PyObject *keywords) {
+    static char *names[] = {"type", "items", "depth", "limit", "memory", NULL};
+    struct call call;
+    if (read_call(self, args, keywords, "OO|$OOO:decode_many", names, &call) < 0) return NULL;
+    PyObject *items = PyObject_GetIter(call.value), *values = items ? PyList_New(0) : NULL, *item = NULL;
+    for (Py_ssize_t at = 0; values && (item = PyIter_Next(items)); at++) {
+        PyObject *value = decode_one(&call, item, at);
+        if (!value || PyList_Append(values, value) < 0) Py_CLEAR(values);
+        Py_XDECREF(value);
+        Py_DECREF(item);
+    }
+    if (values && PyErr_Occurred()) Py_CLEAR(values);
+    Py_XDECREF(items);
+    release(call.shared);
+    return values;
+}
+
+struct text_call {
+    const struct call *call;
+    const uint8_t *bytes;
+    size_t length;
+    struct scratch *scratch;
+    scaleview_answer *answer;
+};
+
+static uint32_t decode_text(void *context) {
+    const struct text_call *text = context;
+    const struct limits *limits = &text->call->limits;
+    return scaleview_decode(text->call->shared->registry, text->call->type, limits->depth, limits->limit, limits->memory,
+                            text->bytes, text->length, text->scratch->bytes, text->scratch->byte_room, text->answer);
+}
+
+static PyObject *registry_decode_json(PyObject *self, PyObject *args, PyObject *keywords) {
+    struct call call;
+    scaleview_answer answer;
+    const uint8_t *bytes;
+    size_t length;
+    if (read_call(self, args, keywords, "OO|$OOO:decode_json", decode_names, &call) < 0) return NULL;
+    PyObject *kept = bytes_of(call.value, &bytes, &length), *made = NULL;
+    struct scratch scratch = take_scratch(call.shared);
+    size_t room = 4 * (kept ? length : 0) + 256;
+    while (kept && make_room(&scratch, 0, room) == 0) {
+        struct text_call text = {&call, bytes, length, &scratch, &answer};
+        enter(call.shared, false);
+        bool is_long = length >= LONG_INPUT || call.limits.depth > DEPTH;
+        PyThreadState *state = is_long ? PyEval_SaveThread() : NULL;
+        answer.code = SCALEVIEW_MEMORY;
+        uint32_t code = with_stack(call.limits.depth, decode_text, &text);
+        if (state) PyEval_RestoreThread(state);
+        leave(call.shared);
+        room = (size_t)answer.length;
+        if (code == SCALEVIEW_NO_ROOM) continue;
+        if (code == SCALEVIEW_OK)
+            made = PyUnicode_FromStringAndSize((const char *)scratch.bytes, (Py_ssize_t)answer.length);
+        else
+            raise_answer(&answer, call.type, -1);
+        break;
+    }
+    give_scratch(call.shared, scratch);
+    Py_XDECREF(kept);
+    release(call.shared);
+    return made;
+}
+
+static PyObject *registry_encode(PyObject *self, PyObject *args, PyObject *keywords) {
+    static char *names[] = {"type", "value", "depth", "memory", NULL};
+    struct call call;
+    if (read_call(self, args, keywords, "OO|$OO:encode", names, &call) < 0) return NULL;
+    PyObject *made = encode_value(call.shared, call.type, call.value, &call.limits);
+    release(call.shared);
+    return made;
+}
+
+/* Reads a type's number, and returns what a function reports about it. */
+static PyObject *describe(PyObject *self, PyObject *number, PyObject *(*report)(struct shared *, uint32_t)) {
+    uint32_t type;
+    if (read_type(self, number, &type) < 0) return NULL;
+    struct shared *shared = shared_of(self);
+    if (!shared) return NULL;
+    PyObject *made = report(shared, type);
+    release(shared);
+    return made;
+}
+
+static PyObject *registry_shape(PyObject *self, PyObject *number) {
+    return describe(self, number, shape_tuple);
+}
+
+static PyObject *registry_fields(PyObject *self, PyObject *number) {
+    return describe(self, number, fields_list);
+}
+
+static PyObject *registry_arms(PyObject *self, PyObject *number) {
+    return describe(self, number, arms_list);
+}
+
+static PyObject *registry_path(PyObject *self, PyObject *number) {
+    return describe(self, number, path_of);
+}
+
+static PyObject *registry_line(PyObject *self, PyObject *number) {
+    return describe(self, number, line_of);
+}
+
+static PyObject *registry_find(PyObject *self, PyObject *args) {
+    PyObject *path;
+    unsigned long from = 0;
+    if (!PyArg_ParseTuple(args, "U|k:_find", &path, &from)) return NULL;
+    struct shared *shared = shared_of(self);
+    if (!shared) return NULL;
+    PyObject *found = find_path(shared, (uint32_t)from, path);
+    release(shared);
+    return found;
+}
+
+static PyObject *registry_enter(PyObject *self, PyObject *unused) {
+    (void)unused;
+    return new_ref(self);
+}
+
+static PyObject *registry_exit(PyObject *self, PyObject *args) {
+    return registry_close(self, args);
+}
+
+static PyObject *get_count(PyObject *self, void *unused) {
+    struct shared *shared = shared_of(self);
+    (void)unused;
+    if (!shared) return NULL;
+    PyObject *count = PyLong_FromUnsignedLong(shared->count);
+    release(shared);
+    return count;
+}
+
+static PyObject *get_version(PyObject *self, void *unused) {
+    struct shared *shared = shared_of(self);
+    (void)unused;
+    if (!shared) return NULL;
+    PyObject *version = shared->version ? PyLong_FromUnsignedLong(shared->version) : new_ref(Py_None);
+    release(shared);
+    return version;
+}
+
+static PyObject *get_end(PyObject *self, void *unused) {
+    struct shared *shared = shared_of(self);
+    (void)unused;
+    if (!shared) return NULL;
+    PyObject *end = PyLong_FromUnsignedLongLong(shared->end);
+    release(shared);
+    return end;
+}
+
+static PyObject *get_closed(PyObject *self, void *unused) {
+    (void)unused;
+    return PyBool_FromLong(!((struct registry *)self)->shared);
+}
+
+static PyGetSetDef getters[] = {
+    {"_count", get_count, NULL, NULL, NULL},
+    {"version", get_version, NULL, "The version of the metadata, 14 or 15, or None for a registry alone.", NULL},
+    {"end", get_end, NULL, "Where the registry ends, in bytes from the start of the data.", NULL},
+    {"closed", get_closed, NULL, "Whether the registry is closed.", NULL},
+    {0},
+};
+
+#define KEYWORDS METH_VARARGS | METH_KEYWORDS
+
+static PyMethodDef methods[] = {
+    {"decode", (PyCFunction)(void (*)(void))registry_decode, KEYWORDS,
+     "decode($self, /, type, data, *, depth=64, limit=16777216, memory=0)\n--\n\n"
+     "Returns the value of a type that all the bytes spell.\n\n"
+     "Args:\n"
+     "    type: A Type of this registry, or its position.\n"
+     "    data: Bytes, or another object with a buffer.\n"
+     "    depth: The greatest depth of a part, up to 1024; the value itself has depth 0.\n"
+     "    limit: The greatest number of bytes of the value, up to 2**40.\n"
+     "    memory: The most bytes that the library allocates for it, without the Python objects; 0 sets no\n"
+     "        bound.\n\n"
+     "Raises:\n"
+     "    Refused: The value, the type or a limit is rejected, with the reason and the place.\n"
+     "    OutOfMemory: An allocation failed, or would have exceeded `memory`.\n"
+     "    OverflowError: A number is out of range.\n"
+     "    TypeError: `data` has no buffer.\n"
+     "    ValueError: The registry is closed."},
+    {"decode_json", (PyCFunction)(void (*)(void))registry_decode_json, KEYWORDS,
+     "decode_json($self, /, type, data, *, depth=64, limit=16777216, memory=0)\n--\n\n"
+     "Returns the value as JSON text. The arguments and exceptions are those of `decode`."},
+    {"decode_many", (PyCFunction)(void (*)(void))registry_decode_many, KEYWORDS,
+     "decode_many($self, /, type, items, *, depth=64, limit=16777216, memory=0)\n--\n\n"
+     "Returns a list of the values of one type. The numbers and exceptions are those of `decode`, and hold\n"
+     "for each value; `Refused.item` is the position of a rejected one."},
+    {"encode", (PyCFunction)(void (*)(void))registry_encode, KEYWORDS,
+     "encode($self, /, type, value, *, depth=64, memory=0)\n--\n\n"
+     "Returns the bytes of a value, which `decode` turns into an equal value.\n\n"
+     "A dict's fields may stand in any order. For a Variant, a pair of its name and fields is accepted; for\n"
+     "bytes, any object with a buffer; for a list or a tuple, the other one or another sequence.\n\n"
+     "Raises:\n"
+     "    TypeError, ValueError, OverflowError: The value isn't one of the type; the text begins with the path\n"
+     "        of the wrong part.\n"
+     "    EncodeError: The library rejects a part, such as one that is too deep, with the reason and the path.\n"
+     "    Refused: The type or the depth is rejected.\n"
+     "    OutOfMemory: An allocation failed, or would have exceeded `memory`."},
+    {"close", registry_close, METH_NOARGS,
+     "close($self, /)\n--\n\n"
+     "Closes the registry; a second call does nothing.\n\n"
+     "Its decoders stay usable, and its memory is freed with the last of them. A registry that is dropped is\n"
+     "closed as well."},
+    {"_shape", registry_shape, METH_O, NULL},
+    {"_fields", registry_fields, METH_O, NULL},
+    {"_arms", registry_arms, METH_O, NULL},
+    {"_path", registry_path, METH_O, NULL},
+    {"_line", registry_line, METH_O, NULL},
+    {"_find", registry_find, METH_VARARGS, NULL},
+    {"__enter__", registry_enter, METH_NOARGS, NULL},
+    {"__exit__", registry_exit, METH_VARARGS, NULL},
+    {0},
+};
+
+static PyType_Slot slots[] = {
+    {Py_tp_doc, "The part of a Registry that is written in C."},
+    {Py_tp_new, registry_new},
+    {Py_tp_dealloc, registry_dealloc},
+    {Py_tp_methods, methods},
+    {Py_tp_getset, getters},
+    {0},
+};
+
+static PyType_Spec spec = {
+    "scaleview._native.Registry", sizeof(struct registry), 0, Py_TPFLAGS_DEFAULT | Py_TPFLAGS_BASETYPE, slots,
+};
+
+int make_registry_class(PyObject *module) {
+    return add_class(module, &registry_class, &spec, "Registry");
+}

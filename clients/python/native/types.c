@@ -1,0 +1,286 @@
+/* What a registry says about its types. */
+#include "native.h"
+
+const char *const primitive_names[15] = {
+    "bool", "char", "str", "u8", "u16", "u32", "u64", "u128", "u256", "i8", "i16", "i32", "i64", "i128", "i256",
+};
+static const char *const kind_names[] = {
+    "composite", "variant", "sequence", "array", "tuple", "primitive", "compact", "bitsequence",
+};
+static const char *const class_names[] = {"NoValue", "Empty", "Sized"};
+
+enum { SHORT_TEXT = 256, INTERNED = 64 };
+
+/* A text of the registry, which is of a type, of one of its arms, or of a field of either. */
+struct text_of {
+    uint32_t (*read)(const struct text_of *text, uint8_t *out, size_t room, scaleview_answer *answer);
+    struct shared *shared;
+    uint32_t type, arm, part;
+};
+
+static uint32_t read_part(const struct text_of *text, uint8_t *out, size_t room, scaleview_answer *answer) {
+    return scaleview_part(text->shared->registry, text->type, text->part, out, room, answer);
+}
+
+static uint32_t read_arm(const struct text_of *text, uint8_t *out, size_t room, scaleview_answer *answer) {
+    return scaleview_arm(text->shared->registry, text->type, text->arm, out, room, answer);
+}
+
+static uint32_t read_arm_field(const struct text_of *text, uint8_t *out, size_t room, scaleview_answer *answer) {
+    return scaleview_arm_field(text->shared->registry, text->type, text->arm, text->part, out, room, answer);
+}
+
+static uint32_t read_path(const struct text_of *text, uint8_t *out, size_t room, scaleview_answer *answer) {
+    return scaleview_path(text->shared->registry, text->type, out, room, answer);
+}
+
+static uint32_t read_line(const struct text_of *text, uint8_t *out, size_t room, scaleview_answer *answer) {
+    return scaleview_type_line(text->shared->registry, text->type, out, room, answer);
+}
+
+/* Returns a text, and what else the call reports in `answer`. */
+static PyObject *read_text(const struct text_of *text, scaleview_answer *answer) {
+    uint8_t few[SHORT_TEXT], *out = few, *many = NULL;
+    size_t room = sizeof few;
+    PyObject *made = NULL;
+    for (;;) {
+        enter(text->shared, false);
+        uint32_t code = text->read(text, out, room, answer);
+        leave(text->shared);
+        if (code != SCALEVIEW_NO_ROOM) break;
+        free(many);
+        room = (size_t)answer->length;
+        out = many = malloc(room);
+        if (!many) return PyErr_NoMemory();
+    }
+    if (answer->code == SCALEVIEW_OK)
+        made = PyUnicode_FromStringAndSize((const char *)out, (Py_ssize_t)answer->length);
+    else
+        raise_answer(answer, text->type, -1);
+    free(many);
+    if (made && answer->length <= INTERNED) PyUnicode_InternInPlace(&made);
+    return made;
+}
+
+static int are_distinct(const struct fields *fields) {
+    if (fields->count == 1) return 1;
+    PyObject *set = PySet_New(NULL);
+    if (!set) return -1;
+    int is_added = 0;
+    for (uint32_t i = 0; i < fields->count && is_added == 0; i++) is_added = PySet_Add(set, fields->names[i]);
+    int found = is_added < 0 ? -1 : PySet_Size(set) == (Py_ssize_t)fields->count;
+    Py_DECREF(set);
+    return found;
+}
+
+static int read_fields(struct text_of text, uint32_t count, struct fields *fields) {
+    fields->names = calloc((size_t)count + 1, sizeof *fields->names);
+    fields->types = calloc((size_t)count + 1, sizeof *fields->types);
+    if (!fields->names || !fields->types) {
+        PyErr_NoMemory();
+        return -1;
+    }
+    bool are_named = count > 0;
+    for (text.part = 0; text.part < count; text.part++) {
+        scaleview_answer answer;
+        PyObject *name = read_text(&text, &answer);
+        if (!name) return -1;
+        fields->types[text.part] = answer.from;
+        if (answer.at == 1) {
+            fields->names[text.part] = name;
+        } else {
+            Py_DECREF(name);
+            are_named = false;
+        }
+        fields->count = text.part + 1;
+    }
+    int is_distinct = are_named ? are_distinct(fields) : 0;
+    fields->are_named = is_distinct > 0;
+    return is_distinct < 0 ? -1 : 0;
+}
+
+static void free_fields(struct fields *fields) {
+    for (uint32_t i = 0; i < fields->count; i++) Py_XDECREF(fields->names[i]);
+    free(fields->names);
+    free(fields->types);
+}
+
+void free_info(struct type_info *info) {
+    if (!info) return;
+    free_fields(&info->fields);
+    for (uint32_t i = 0; info->arms && i < info->shape.parts; i++) {
+        Py_XDECREF(info->arms[i].name);
+        free_fields(&info->arms[i].fields);
+    }
+    free(info->arms);
+    Py_XDECREF(info->arm_positions);
+    free(info);
+}
+
+static int read_arm_positions(struct type_info *info) {
+    bool is_taken[256] = {false};
+    info->arm_positions = PyDict_New();
+    if (!info->arm_positions) return -1;
+    for (uint32_t i = 0; i < info->shape.parts; i++) {
+        struct arm *arm = &info->arms[i];
+        arm->is_shadowed = is_taken[arm->index & 0xff];
+        if (arm->is_shadowed) continue;
+        is_taken[arm->index & 0xff] = true;
+        if (PyDict_GetItemWithError(info->arm_positions, arm->name)) continue;
+        PyObject *position = PyErr_Occurred() ? NULL : PyLong_FromUnsignedLong(i);
+        int code = position ? PyDict_SetItem(info->arm_positions, arm->name, position) : -1;
+        Py_XDECREF(position);
+        if (code < 0) return -1;
+    }
+    return 0;
+}
+
+static int read_arms(struct shared *shared, uint32_t type, struct type_info *info) {
+    info->arms = calloc((size_t)info->shape.parts + 1, sizeof *info->arms);
+    if (!info->arms) {
+        PyErr_NoMemory();
+        return -1;
+    }
+    for (uint32_t i = 0; i < info->shape.parts; i++) {
+        scaleview_answer answer;
+        struct arm *arm = &info->arms[i];
+        struct text_of text = {read_arm, shared, type, i, 0};
+        arm->name = read_text(&text, &answer);
+        if (!arm->name) return -1;
+        arm->index = answer.from;
+        text.read = read_arm_field;
+        if (read_fields(text, (uint32_t)answer.at, &arm->fields) < 0) return -1;
+    }
+    return read_arm_positions(info);
+}
+
+static uint32_t read_shape(struct shared *shared, uint32_t type, scaleview_type_shape *shape) {
+    scaleview_answer answer;
+    enter(shared, false);
+    scaleview_type(shared->registry, type, shape, &answer);
+    leave(shared);
+    if (answer.code != SCALEVIEW_OK) raise_answer(&answer, type, -1);
+    return answer.code;
+}
+
+/* Finds the primitive that a compact wraps, through composites of one field and tuples of one member. */
+static int read_target(struct shared *shared, struct type_info *info) {
+    scaleview_type_shape shape = info->shape;
+    uint32_t type = info->shape.element;
+    for (uint32_t steps = 0; steps <= shared->count; steps++) {
+        scaleview_answer answer;
+        if (read_shape(shared, type, &shape) != SCALEVIEW_OK) return -1;
+        if (shape.kind == SCALEVIEW_PRIMITIVE) {
+            bool is_unsigned = shape.primitive >= SCALEVIEW_U8 && shape.primitive <= SCALEVIEW_U128;
+            info->target = is_unsigned ? shape.primitive : NO_TARGET;
+            return 0;
+        }
+        if ((shape.kind != SCALEVIEW_COMPOSITE && shape.kind != SCALEVIEW_TUPLE) || shape.parts != 1) break;
+        struct text_of text = {read_part, shared, type, 0, 0};
+        PyObject *name = read_text(&text, &answer);
+        Py_XDECREF(name);
+        if (!name) return -1;
+        type = answer.from;
+    }
+    info->target = NO_TARGET;
+    return 0;
+}
+
+static int read_info(struct shared *shared, uint32_t type, struct type_info *info) {
+    info->target = NO_TARGET;
+    if (read_shape(shared, type, &info->shape) != SCALEVIEW_OK) return -1;
+    switch (info->shape.kind) {
+    case SCALEVIEW_COMPOSITE:
+    case SCALEVIEW_TUPLE:
+        return read_fields((struct text_of){read_part, shared, type, 0, 0}, info->shape.parts, &info->fields);
+    case SCALEVIEW_VARIANT: return read_arms(shared, type, info);
+    case SCALEVIEW_COMPACT: return read_target(shared, info);
+    default: return 0;
+    }
+}
+
+/* Returns what the registry says about a type, which is kept as long as the registry, or NULL with an exception. */
+const struct type_info *info_of(struct shared *shared, uint32_t type) {
+    if (type < shared->count && shared->infos[type]) return shared->infos[type];
+    struct type_info *info = calloc(1, sizeof *info);
+    if (!info) return (struct type_info *)PyErr_NoMemory();
+    if (read_info(shared, type, info) < 0) {
+        free_info(info);
+        return NULL;
+    }
+    /* Another thread may have read it meanwhile, and may use what it has read. */
+    if (shared->infos[type])
+        free_info(info);
+    else
+        shared->infos[type] = info;
+    return shared->infos[type];
+}
+
+/* (kind, class, element or None, order or None, length or None) */
+PyObject *shape_tuple(struct shared *shared, uint32_t type) {
+    scaleview_type_shape shape;
+    if (read_shape(shared, type, &shape) != SCALEVIEW_OK) return NULL;
+    bool is_array = shape.kind == SCALEVIEW_ARRAY, is_bits = shape.kind == SCALEVIEW_BIT_SEQUENCE;
+    bool has_element = is_array || is_bits || shape.kind == SCALEVIEW_SEQUENCE || shape.kind == SCALEVIEW_COMPACT;
+    const char *kind = shape.kind == SCALEVIEW_PRIMITIVE ? primitive_names[shape.primitive] : kind_names[shape.kind];
+    return Py_BuildValue("(ssNNN)", kind, class_names[shape.value_class],
+                         has_element ? PyLong_FromUnsignedLong(shape.element) : new_ref(Py_None),
+                         is_bits ? PyLong_FromUnsignedLong(shape.order) : new_ref(Py_None),
+                         is_array ? PyLong_FromUnsignedLong(shape.length) : new_ref(Py_None));
+}
+
+static PyObject *list_of(const struct fields *fields) {
+    PyObject *list = PyList_New(0);
+    for (uint32_t i = 0; list && i < fields->count; i++) {
+        PyObject *name = fields->names[i] ? fields->names[i] : Py_None;
+        PyObject *pair = Py_BuildValue("(Ok)", name, (unsigned long)fields->types[i]);
+        if (!pair || PyList_Append(list, pair) < 0) Py_CLEAR(list);
+        Py_XDECREF(pair);
+    }
+    return list;
+}
+
+/* The fields of a composite or the members of a tuple: [(name or None, type), ..]. */
+PyObject *fields_list(struct shared *shared, uint32_t type) {
+    const struct type_info *info = info_of(shared, type);
+    return info ? list_of(&info->fields) : NULL;
+}
+
+/* The arms of a variant: [(name, index, fields), ..]. */
+PyObject *arms_list(struct shared *shared, uint32_t type) {
+    const struct type_info *info = info_of(shared, type);
+    PyObject *list = info ? PyList_New(0) : NULL;
+    for (uint32_t i = 0; list && info->arms && i < info->shape.parts; i++) {
+        const struct arm *found = &info->arms[i];
+        PyObject *fields = list_of(&found->fields);
+        PyObject *arm = fields ? Py_BuildValue("(OkO)", found->name, (unsigned long)found->index, fields) : NULL;
+        if (!arm || PyList_Append(list, arm) < 0) Py_CLEAR(list);
+        Py_XDECREF(fields);
+        Py_XDECREF(arm);
+    }
+    return list;
+}
+
+PyObject *path_of(struct shared *shared, uint32_t type) {
+    scaleview_answer answer;
+    return read_text(&(struct text_of){read_path, shared, type, 0, 0}, &answer);
+}
+
+PyObject *line_of(struct shared *shared, uint32_t type) {
+    scaleview_answer answer;
+    return read_text(&(struct text_of){read_line, shared, type, 0, 0}, &answer);
+}
+
+/* The first type from this position on that has the path, or None. */
+PyObject *find_path(struct shared *shared, uint32_t from, PyObject *path) {
+    PyObject *bytes = PyUnicode_AsUTF8String(path);
+    if (!bytes) return NULL;
+    scaleview_answer answer;
+    const uint8_t *at = (const uint8_t *)PyBytes_AsString(bytes);
+    size_t length = (size_t)PyBytes_Size(bytes);
+    enter(shared, false);
+    uint32_t code = scaleview_find(shared->registry, from, at, length, &answer);
+    leave(shared);
+    Py_DECREF(bytes);
+    return code == SCALEVIEW_OK ? PyLong_FromUnsignedLongLong(answer.at) : new_ref(Py_None);
+}

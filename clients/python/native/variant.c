@@ -1,0 +1,108 @@
+/* The class of variants' values. */
+#include "native.h"
+
+PyTypeObject *variant_class;
+
+struct variant {
+    PyObject_HEAD
+    PyObject *name, *fields;
+};
+
+/* Returns the value of an arm. It takes the reference to the fields. */
+PyObject *variant_of(PyObject *name, PyObject *fields) {
+    struct variant *variant = (struct variant *)PyType_GenericAlloc(variant_class, 0);
+    if (!variant) {
+        Py_DECREF(fields);
+        return NULL;
+    }
+    variant->name = new_ref(name);
+    variant->fields = fields;
+    return (PyObject *)variant;
+}
+
+PyObject *variant_name(PyObject *variant) {
+    return ((struct variant *)variant)->name;
+}
+
+PyObject *variant_fields(PyObject *variant) {
+    return ((struct variant *)variant)->fields;
+}
+
+static PyObject *variant_new(PyTypeObject *class, PyObject *args, PyObject *keywords) {
+    static char *names[] = {"name", "fields", NULL};
+    PyObject *name, *fields = NULL;
+    (void)class;
+    if (!PyArg_ParseTupleAndKeywords(args, keywords, "U|O:Variant", names, &name, &fields)) return NULL;
+    /* Their deallocation bounds the use of stack, and they break cycles. */
+    if (fields && !PyDict_Check(fields) && !PyList_Check(fields) && !PyTuple_Check(fields)) {
+        PyErr_SetString(PyExc_TypeError, "the fields of a Variant have to be a dict, a list or a tuple");
+        return NULL;
+    }
+    fields = fields ? new_ref(fields) : PyList_New(0);
+    return fields ? variant_of(name, fields) : NULL;
+}
+
+/* It doesn't visit the class, which the module keeps. */
+static int variant_traverse(PyObject *self, visitproc visit, void *arg) {
+    Py_VISIT(((struct variant *)self)->name);
+    Py_VISIT(((struct variant *)self)->fields);
+    return 0;
+}
+
+static void variant_dealloc(PyObject *self) {
+    PyTypeObject *class = Py_TYPE(self);
+    struct variant *variant = (struct variant *)self;
+    PyObject_GC_UnTrack(self);
+    Py_XDECREF(variant->name);
+    Py_XDECREF(variant->fields);
+    PyObject_GC_Del(self);
+    Py_DECREF(class);
+}
+
+static PyObject *variant_repr(PyObject *self) {
+    return PyUnicode_FromFormat("Variant(%R, %R)", variant_name(self), variant_fields(self));
+}
+
+static PyObject *variant_compare(PyObject *self, PyObject *other, int how) {
+    if (Py_TYPE(other) != variant_class || (how != Py_EQ && how != Py_NE)) return new_ref(Py_NotImplemented);
+    int is_same = PyObject_RichCompareBool(variant_name(self), variant_name(other), Py_EQ);
+    if (is_same > 0) is_same = PyObject_RichCompareBool(variant_fields(self), variant_fields(other), Py_EQ);
+    return is_same < 0 ? NULL : PyBool_FromLong(is_same == (how == Py_EQ));
+}
+
+static PyObject *variant_reduce(PyObject *self, PyObject *unused) {
+    (void)unused;
+    return Py_BuildValue("(O(OO))", variant_class, variant_name(self), variant_fields(self));
+}
+
+static PyMemberDef members[] = {
+    {"name", T_OBJECT_EX, offsetof(struct variant, name), READONLY, "The arm's name."},
+    {"fields", T_OBJECT_EX, offsetof(struct variant, fields), READONLY, "The arm's fields: a dict or a list."},
+    {0},
+};
+
+static PyMethodDef methods[] = {{"__reduce__", variant_reduce, METH_NOARGS, NULL}, {0}};
+
+static PyType_Slot slots[] = {
+    {Py_tp_doc, "Variant(name, fields=[])\n--\n\nA variant's value: the name of its arm, and the arm's fields.\n\n"
+                "The fields are a dict in field order if all have names, which differ, and otherwise a\n"
+                "list. Both are compared; a Variant isn't hashable."},
+    {Py_tp_new, variant_new},
+    {Py_tp_dealloc, variant_dealloc},
+    {Py_tp_traverse, variant_traverse},
+    {Py_tp_repr, variant_repr},
+    {Py_tp_richcompare, variant_compare},
+    {Py_tp_members, members},
+    {Py_tp_methods, methods},
+    {0},
+};
+
+static PyType_Spec spec = {"scaleview.Variant", sizeof(struct variant), 0, Py_TPFLAGS_DEFAULT | Py_TPFLAGS_HAVE_GC, slots};
+
+int make_variant_class(PyObject *module) {
+    if (add_class(module, &variant_class, &spec, "Variant") < 0) return -1;
+    PyObject *names = Py_BuildValue("(ss)", "name", "fields");
+    int code = names ? PyObject_SetAttrString((PyObject *)variant_class, "__match_args__", names) : -1;
+    Py_XDECREF(names);
+    return code;
+}

@@ -1,0 +1,226 @@
+"""Decodes SCALE, the binary codec of Polkadot and Substrate chains, into Python values, and encodes them.
+
+    >>> registry = Registry(bytes.fromhex("04000000050300"))
+    >>> registry.decode(0, b"\\x2a")
+    42
+    >>> registry.encode(0, 42)
+    b'*'
+
+A registry names the types of a chain. `Registry` opens one, or the metadata that begins with it. The
+values of its types are:
+
+- bool, str and int; 256-bit and compact integers are ints, and a char is a str of one character;
+- bytes for sequences and arrays of u8, and a list for others;
+- a dict in field order for a composite whose fields all have names, which differ, and a tuple for other
+  composites and for tuples;
+- `Variant` for a variant;
+- None for types of no bytes, and `Empties` for a sequence of them.
+
+Any thread may use a registry and its decoders. Long inputs are decoded without the lock of the interpreter.
+
+The decoder behind this package is proved; the package is not.
+"""
+
+from __future__ import annotations
+
+import os
+from typing import Any, Iterator, List, NamedTuple, Optional, Sequence, Tuple, TypeVar, Union, overload
+
+from . import _native
+from ._base import Empties, EncodeError, OutOfMemory, Refused
+from ._native import DEPTH, LIMIT, Decoder, Variant
+
+__version__ = "0.2.0"
+__all__ = [
+    "Registry",
+    "Decoder",
+    "Variant",
+    "Empties",
+    "Type",
+    "Field",
+    "Arm",
+    "Refused",
+    "EncodeError",
+    "OutOfMemory",
+    "DEPTH",
+    "LIMIT",
+]
+
+#: Any object with a buffer is accepted at run time; this names the usual ones.
+Buffer = Union[bytes, bytearray, memoryview]
+
+_R = TypeVar("_R", bound="Registry")
+
+# In a child process no call of the parent's threads is under way.
+os.register_at_fork(after_in_child=_native._after_fork)
+
+
+class Field(NamedTuple):
+    """A field of a composite or of an arm, or a member of a tuple."""
+
+    name: Optional[str]
+    #: The position of its type.
+    type: int
+
+
+class Arm(NamedTuple):
+    """An arm of a variant."""
+
+    name: str
+    #: The first byte of its values.
+    index: int
+    fields: List[Field]
+
+
+def _fields(pairs: List[Tuple[Optional[str], int]]) -> List[Field]:
+    return [Field(name, type_id) for name, type_id in pairs]
+
+
+class Type:
+    """A type of a registry. Wherever a type is named, it or its `id` may stand."""
+
+    __slots__ = ("registry", "id")
+
+    def __init__(self, registry: Registry, type_id: int) -> None:
+        #: The registry that it belongs to.
+        self.registry = registry
+        #: Its position in the registry.
+        self.id = type_id
+
+    @property
+    def path(self) -> str:
+        """Its path, such as "frame_system::AccountInfo", or "" if it has none."""
+        return self.registry._path(self.id)
+
+    @property
+    def kind(self) -> str:
+        """What it is: "composite", "variant", "sequence", "array", "tuple", "compact", "bitsequence" or a primitive,
+        such as "u32"."""
+        return self.registry._shape(self.id)[0]
+
+    @property
+    def size_class(self) -> str:
+        """How many bytes its values take: "Sized", "Empty" for none, or "NoValue" if it has no finite value."""
+        return self.registry._shape(self.id)[1]
+
+    @property
+    def fields(self) -> List[Field]:
+        """The fields of a composite or the members of a tuple, and else an empty list."""
+        return _fields(self.registry._fields(self.id))
+
+    @property
+    def variants(self) -> List[Arm]:
+        """The arms of a variant, and else an empty list."""
+        return [Arm(name, index, _fields(pairs)) for name, index, pairs in self.registry._arms(self.id)]
+
+    @property
+    def element(self) -> Optional[int]:
+        """The position of the type of a sequence's or an array's elements, of what a compact wraps, or of a bit
+        sequence's store, and else None."""
+        return self.registry._shape(self.id)[2]
+
+    @property
+    def order(self) -> Optional[int]:
+        """The position of the type that names the order of a bit sequence, and else None."""
+        return self.registry._shape(self.id)[3]
+
+    @property
+    def length(self) -> Optional[int]:
+        """The number of elements of an array, and else None."""
+        return self.registry._shape(self.id)[4]
+
+    def __index__(self) -> int:
+        return self.id
+
+    def __eq__(self, other: object) -> bool:
+        if not isinstance(other, Type):
+            return NotImplemented
+        return self.registry is other.registry and self.id == other.id
+
+    def __hash__(self) -> int:
+        return hash((id(self.registry), self.id))
+
+    def __str__(self) -> str:
+        """Returns its position, class, kind and path, as the command prints them."""
+        return self.registry._line(self.id)[:-1]
+
+    def __repr__(self) -> str:
+        return f"<Type {self.id} {' '.join(filter(None, (self.kind, self.path)))}>"
+
+
+class Types(Sequence[Type]):
+    """The types of a registry by position. Each is made when it is asked for."""
+
+    __slots__ = ("_registry",)
+
+    def __init__(self, registry: Registry) -> None:
+        self._registry = registry
+
+    def __len__(self) -> int:
+        return self._registry._count
+
+    @overload
+    def __getitem__(self, index: int) -> Type: ...
+
+    @overload
+    def __getitem__(self, index: slice) -> List[Type]: ...
+
+    def __getitem__(self, index: Union[int, slice]) -> Union[Type, List[Type]]:
+        try:
+            found = range(len(self))[index]
+        except IndexError:
+            raise IndexError(f"the registry has no type at {index}: it has {len(self)}") from None
+        if isinstance(found, range):
+            return [Type(self._registry, type_id) for type_id in found]
+        return Type(self._registry, found)
+
+    def __iter__(self) -> Iterator[Type]:
+        return (Type(self._registry, type_id) for type_id in range(len(self)))
+
+    def __repr__(self) -> str:
+        return f"<{len(self)} types>"
+
+
+class Registry(_native.Registry):
+    """An open registry of types.
+
+    `data` holds a registry's bytes, or a chain's metadata of version 14 or 15, which is recognised by its
+    four letters "meta". With `metadata=True` it has to be metadata, and with `metadata=False` a registry.
+
+    It needs no `close`: memory is freed with the last object that uses it.
+
+    Raises:
+        Refused: The bytes are rejected, with the reason and the place.
+        OutOfMemory: An allocation failed.
+        TypeError: `data` has no buffer.
+    """
+
+    @classmethod
+    def raw(cls: type[_R], data: Buffer) -> _R:
+        """Opens a registry that stands alone, whatever its first letters are."""
+        return cls(data, metadata=False)
+
+    @property
+    def types(self) -> Types:
+        """The types by position."""
+        return Types(self)
+
+    def find(self, path: str) -> Optional[Type]:
+        """Returns the first type with this path, such as "frame_system::AccountInfo", or None."""
+        found = self._find(path)
+        return None if found is None else Type(self, found)
+
+    def find_all(self, path: str) -> List[Type]:
+        """Returns all types with this path, in order of position."""
+        found = []
+        at = self._find(path)
+        while at is not None:
+            found.append(Type(self, at))
+            at = self._find(path, at + 1)
+        return found
+
+    def __repr__(self) -> str:
+        if self.closed:
+            return "<Registry, closed>"
+        version = "" if self.version is None else f", metadata {self.version}"
+        return f"<Registry of {len(self.types)} types{version}>"

@@ -1,0 +1,110 @@
+"""The exceptions and classes that the extension module makes. It imports this module."""
+
+from __future__ import annotations
+
+import operator
+from typing import Any, Optional, Sequence
+
+
+class Refused(ValueError):
+    """Bytes, a type, a value or a limit that the library rejects.
+
+    Attributes:
+        code: The library's number.
+        reason: The library's name of it, such as "Truncated".
+        part: What is rejected: "registry", "check" for a reference between its types, "type", "limits" or "value".
+        place: The place in bytes from the start, or None where there is none.
+        from_type: The position of the type that refers to one that doesn't exist, or None.
+        to_type: The position of a type that doesn't exist, or None.
+        item: The position of the rejected item of `decode_many`, or None.
+    """
+
+    def __init__(
+        self,
+        code: int,
+        reason: str,
+        part: str,
+        place: Optional[int] = None,
+        from_type: Optional[int] = None,
+        to_type: Optional[int] = None,
+        item: Optional[int] = None,
+    ) -> None:
+        self.code = code
+        self.reason = reason
+        self.part = part
+        self.place = place
+        self.from_type = from_type
+        self.to_type = to_type
+        self.item = item
+        super().__init__(code, reason, part, place, from_type, to_type, item)
+
+    def __str__(self) -> str:
+        text = f"{self.part}: {self.reason}"
+        if self.to_type is not None:
+            text += f" {self.to_type}"
+        if self.from_type is not None:
+            text += f" in type {self.from_type}"
+        if self.place is not None:
+            text += f" at {self.place}"
+        return text if self.item is None else f"{text} in item {self.item}"
+
+
+class EncodeError(Refused):
+    """A part of a value that the library doesn't encode, such as one that is too deep.
+
+    Attributes:
+        path: Where it is, such as "value.fields[3].name".
+        node: The position of its node among those of the value.
+    """
+
+    def __init__(self, code: int, reason: str, path: str, node: int) -> None:
+        super().__init__(code, reason, "value")
+        self.path = path
+        self.node = node
+        self.args = (code, reason, path, node)
+
+    def __str__(self) -> str:
+        return f"{self.path}: {self.reason}"
+
+
+class OutOfMemory(MemoryError):
+    """An allocation of the library failed, or would have exceeded the bound `memory`."""
+
+
+class Empties(Sequence[None]):
+    """A sequence of elements that take no bytes: `count` times None, without the memory of a list.
+
+    A value of five bytes may have 2**32 - 1 such elements, so `decode` makes no list of them.
+    """
+
+    __slots__ = ("count",)
+
+    count: int  # type: ignore[assignment]
+
+    def __init__(self, count: int) -> None:
+        number = operator.index(count)
+        if not 0 <= number < 1 << 32:
+            raise OverflowError("count is out of range: it has to be in 0 to 2**32 - 1")
+        object.__setattr__(self, "count", number)
+
+    def __setattr__(self, name: str, value: object) -> None:
+        raise AttributeError(f"{name} can't be set")
+
+    def __len__(self) -> int:
+        return self.count
+
+    def __getitem__(self, index: Any) -> Any:
+        found = range(self.count)[index]
+        return Empties(len(found)) if isinstance(found, range) else None
+
+    def __eq__(self, other: object) -> bool:
+        return self.count == other.count if isinstance(other, Empties) else NotImplemented
+
+    def __hash__(self) -> int:
+        return hash((Empties, self.count))
+
+    def __repr__(self) -> str:
+        return f"Empties({self.count})"
+
+    def __reduce__(self) -> Any:
+        return Empties, (self.count,)

@@ -1,0 +1,812 @@
+"""The package: values, encoding, pieces, exceptions, arguments and types."""
+
+from __future__ import annotations
+
+import array
+import copy
+import doctest
+import json
+import mmap
+import os
+import pathlib
+import pickle
+import subprocess
+import sys
+import tempfile
+import unittest
+import zipfile
+from multiprocessing.reduction import ForkingPickler
+from typing import Any, Callable, Iterator
+
+import registries as make
+import scaleview
+from scaleview import Arm, Decoder, Empties, EncodeError, Field, OutOfMemory, Refused, Registry, Type, Variant
+
+CLIENT = pathlib.Path(__file__).resolve().parents[1]
+EXAMPLES = CLIENT.parents[1] / "examples"
+U16 = make.registry_of(make.primitive("u16"))
+U32 = make.registry_of(make.primitive("u32"))
+BYTES = make.registry_of(make.primitive("u8"), make.sequence(0))
+# A variant with an arm End, and an arm Next whose one field is the variant itself.
+CHAIN = make.registry_of(make.variant(("End", 0, ()), ("Next", 1, ((None, 0),))))
+NAMED_CHAIN = make.registry_of(make.variant(("End", 0, ()), ("Next", 1, (("rest", 0),))))
+
+
+def load_tests(loader: Any, tests: unittest.TestSuite, pattern: Any) -> unittest.TestSuite:
+    tests.addTests(doctest.DocTestSuite(scaleview))
+    folder = os.getcwd()
+    readme = doctest.DocFileSuite(
+        str(CLIENT / "README.md"),
+        module_relative=False,
+        setUp=lambda _: os.chdir(EXAMPLES.parent),
+        tearDown=lambda _: os.chdir(folder),
+    )
+    tests.addTests(readme)
+    return tests
+
+
+def examples() -> Iterator[tuple[str, Registry, int, bytes, str]]:
+    """Each stored value with its registry, type, bytes and text."""
+    for folder in sorted(EXAMPLES.iterdir()):
+        for name in ("registry.scale", "metadata.scale"):
+            if not (folder / name).exists():
+                continue
+            registry = Registry((folder / name).read_bytes())
+            for line in (folder / "values.txt").read_text().splitlines():
+                value, type_id = line.split()
+                data, text = (folder / f"{value}.scale").read_bytes(), (folder / f"{value}.json").read_text()
+                yield f"{folder.name}/{value}", registry, int(type_id), data, text.rstrip("\n")
+
+
+class Values(unittest.TestCase):
+    def check(self, registry: Registry, type_id: int, data: str, value: Any) -> None:
+        """The bytes are the value, and the value these bytes."""
+        found = registry.decode(type_id, bytes.fromhex(data))
+        self.assertEqual(found, value)
+        self.assertIs(type(found), type(value))
+        self.assertEqual(registry.encode(type_id, value).hex(), data.replace(" ", ""))
+        decoder = Decoder(registry, type_id)
+        self.assertIsNotNone(decoder.feed(bytes.fromhex(data)))
+        self.assertEqual(decoder.finish(), value)
+
+    def test_primitives(self) -> None:
+        registry = Registry(make.registry_of(*map(make.primitive, make.PRIMITIVES)))
+        self.check(registry, 0, "00", False)
+        self.check(registry, 0, "01", True)
+        for char in "a\0é€\U0010ffff\ud7ff":
+            self.check(registry, 1, ord(char).to_bytes(4, "little").hex(), char)
+        self.check(registry, 2, "00", "")
+        self.check(registry, 2, "1c61c3a9f09f9880", "aé😀")
+        self.assertEqual(registry.encode(2, "x" * 100), make.text("x" * 100))
+        for type_id, width in zip(range(3, 9), (8, 16, 32, 64, 128, 256)):
+            numbers = {0, 1, 10, 255, (1 << width) - 1, 1 << (width - 1), (1 << width - 1) - 1, (1 << width) // 3}
+            for number in numbers | {1 << bit for bit in range(width)} | {(1 << bit) - 1 for bit in range(width)}:
+                if number < 1 << width:
+                    self.check(registry, type_id, number.to_bytes(width // 8, "little").hex(), number)
+            for number in (-1, 1 << width, 1 << width + 64, -(1 << 300), 1 << 300, 1 << 100_000):
+                with self.assertRaisesRegex(OverflowError, f"^value: the number is out of range of u{width}$"):
+                    registry.encode(type_id, number)
+        for type_id, width in zip(range(9, 15), (8, 16, 32, 64, 128, 256)):
+            most = 1 << width - 1
+            for bit in range(width - 1):
+                for number in ((1 << bit) - 1, 1 << bit, -(1 << bit), -(1 << bit) - 1):
+                    self.check(registry, type_id, number.to_bytes(width // 8, "little", signed=True).hex(), number)
+            for number in (-most, most - 1, -most // 3):
+                self.check(registry, type_id, number.to_bytes(width // 8, "little", signed=True).hex(), number)
+            for number in (most, -most - 1, 1 << 300, -(1 << 300), 1 << 256, -(1 << 256), 1 << 64 * 4 - 1):
+                with self.assertRaisesRegex(OverflowError, f"^value: the number is out of range of i{width}$"):
+                    registry.encode(type_id, number)
+
+    def test_compacts(self) -> None:
+        registry = Registry(
+            make.registry_of(
+                make.primitive("u128"), make.compact_of(0), make.composite(("x", 0)), make.compact_of(2),
+                make.members(), make.compact_of(4), make.primitive("u8"), make.compact_of(6), make.primitive("bool"),
+                make.compact_of(8),
+            )
+        )
+        for type_id in (1, 3):
+            self.check(registry, type_id, "00", 0)
+            self.check(registry, type_id, "fd03", 255)
+            self.check(registry, type_id, "33" + "ff" * 16, (1 << 128) - 1)
+        self.check(registry, 5, "", None)
+        self.check(registry, 7, "fd03", 255)
+        with self.assertRaisesRegex(OverflowError, "^value: the number is out of range of u8$"):
+            registry.encode(7, 256)
+        with self.assertRaisesRegex(EncodeError, "^value: BadCompact$"):
+            registry.encode(9, 1)
+
+    def test_composites_and_tuples(self) -> None:
+        registry = Registry(
+            make.registry_of(
+                make.primitive("u8"), make.composite(("b", 0), ("a", 0)), make.composite((None, 0), ("a", 0)),
+                make.composite(("a", 0), ("a", 0)), make.members(0, 1), make.members(), make.composite(),
+                make.composite(("é", 5), ("x", 0)),
+            )
+        )
+        self.check(registry, 1, "0102", {"b": 1, "a": 2})
+        self.assertEqual(list(registry.decode(1, b"\1\2")), ["b", "a"])
+        self.assertEqual(registry.encode(1, {"a": 2, "b": 1}), b"\1\2")
+        self.check(registry, 2, "0102", (1, 2))
+        self.check(registry, 3, "0102", (1, 2))
+        self.check(registry, 4, "010203", (1, {"b": 2, "a": 3}))
+        self.check(registry, 5, "", None)
+        self.check(registry, 6, "", None)
+        self.check(registry, 7, "09", {"é": None, "x": 9})
+        self.assertEqual(registry.encode(4, [1, {"b": 2, "a": 3}]), b"\1\2\3")
+
+    def test_sequences_and_arrays(self) -> None:
+        registry = Registry(
+            make.registry_of(
+                make.primitive("u8"), make.sequence(0), make.array(3, 0), make.primitive("u16"), make.sequence(3),
+                make.array(2, 3), make.array(0, 3), make.members(), make.sequence(7), make.array(4, 7), make.members(0),
+                make.sequence(10),
+            )
+        )
+        self.check(registry, 1, "00", b"")
+        self.check(registry, 1, "0c010203", b"\1\2\3")
+        self.check(registry, 2, "010203", b"\1\2\3")
+        self.check(registry, 4, "00", [])
+        self.check(registry, 4, "0801000200", [1, 2])
+        self.check(registry, 5, "01000200", [1, 2])
+        self.check(registry, 6, "", None)
+        self.check(registry, 8, "00", Empties(0))
+        self.check(registry, 8, "03ffffffff", Empties((1 << 32) - 1))
+        self.check(registry, 9, "", None)
+        self.check(registry, 11, "080102", [(1,), (2,)])
+        for items in ((1, 2), range(1, 3), array.array("I", [1, 2]), [1, 2]):
+            self.assertEqual(registry.encode(4, items).hex(), "0801000200")
+        for items in (bytearray(b"\1\2\3"), memoryview(b"\1\2\3"), array.array("B", [1, 2, 3])):
+            self.assertEqual(registry.encode(1, items).hex(), "0c010203")
+        self.assertEqual(registry.encode(8, [None] * 3), b"\x0c")
+        self.assertEqual(len(registry.decode(8, bytes.fromhex("03ffffffff"))), (1 << 32) - 1)
+
+    def test_variants(self) -> None:
+        registry = Registry(
+            make.registry_of(
+                make.primitive("u8"),
+                make.variant(("End", 7, ()), ("Pair", 9, ((None, 0), (None, 0))), ("Named", 1, (("b", 0), ("a", 0)))),
+                # Of the arms A, the second is shadowed; the third and the fourth differ by their fields.
+                make.variant(("A", 1, ()), ("A", 1, ((None, 0),)), ("A", 2, ((None, 0),)), ("A", 3, (("x", 0),))),
+            )
+        )
+        self.check(registry, 1, "07", Variant("End", []))
+        self.check(registry, 1, "090102", Variant("Pair", [1, 2]))
+        self.check(registry, 1, "010102", Variant("Named", {"b": 1, "a": 2}))
+        for data, value in (("01", []), ("0205", [5]), ("0306", {"x": 6})):
+            self.check(registry, 2, data, Variant("A", value))
+        for pair in (("Named", {"a": 2, "b": 1}), Variant("Named", {"a": 2, "b": 1})):
+            self.assertEqual(registry.encode(1, pair).hex(), "010102")
+        for fields in ([], (), {}):
+            self.assertEqual(registry.encode(1, ("End", fields)), b"\7")
+
+    def test_stored_values_of_the_examples(self) -> None:
+        count = 0
+        for name, registry, type_id, data, text in examples():
+            with self.subTest(name):
+                value = registry.decode(type_id, data)
+                self.assertEqual(registry.decode_json(type_id, data), text)
+                self.assertEqual(registry.encode(type_id, value), data)
+                self.assertEqual(registry.decode_many(type_id, [data] * 3), [value] * 3)
+                decoder = Decoder(registry, registry.types[type_id])
+                for at in range(0, len(data), 7):
+                    used = decoder.feed(data[at : at + 7])
+                self.assertEqual(used, (len(data) - 1) % 7 + 1)
+                self.assertEqual((decoder.finish_json(), decoder.finish()), (text, value))
+                count += 1
+        self.assertGreater(count, 15)
+
+    def test_the_deepest_values(self) -> None:
+        for data, is_named in ((CHAIN, False), (NAMED_CHAIN, True)):
+            registry = Registry(data)
+            for depth in (0, 64, 498, 1024):
+                chain = b"\1" * depth + b"\0"
+                decoder = Decoder(registry, 0, depth=depth)
+                decoder.feed(chain)
+                for value in (registry.decode(0, chain, depth=depth), decoder.finish()):
+                    self.assertEqual(registry.encode(0, value, depth=depth), chain)
+                    levels = 0
+                    while value.name == "Next":
+                        value = value.fields["rest"] if is_named else value.fields[0]
+                        levels += 1
+                    self.assertEqual((value, levels), (Variant("End"), depth))
+                text = registry.decode_json(0, chain, depth=depth)
+                front, back = ('{"Next":{"rest":', "}}") if is_named else ('{"Next":[', "]}")
+                self.assertEqual(text, front * depth + '{"End":[]}' + back * depth)
+                self.assertEqual(decoder.finish_json(), text)
+                with self.assertRaisesRegex(Refused, f"^value: TooDeep at {depth + 1}$"):
+                    registry.decode(0, b"\1" + chain, depth=depth)
+
+    def test_many_values(self) -> None:
+        registry = Registry(U16)
+        self.assertEqual(registry.decode_many(0, (bytes([n, 0]) for n in range(100))), list(range(100)))
+        self.assertEqual(registry.decode_many(0, []), [])
+        with self.assertRaises(Refused) as raised:
+            registry.decode_many(0, [b"\1\0", b"\1"])
+        self.assertEqual((raised.exception.item, raised.exception.place), (1, 1))
+        self.assertEqual(str(raised.exception), "value: Truncated at 1 in item 1")
+        wrong: Any
+        for wrong in (5, ["a"], None):
+            with self.assertRaises(TypeError):
+                registry.decode_many(0, wrong)
+
+        def failing() -> Iterator[bytes]:
+            yield b"\1\0"
+            raise KeyError("from the iterator")
+
+        with self.assertRaises(KeyError):
+            registry.decode_many(0, failing())
+
+
+class Classes(unittest.TestCase):
+    def test_variants_are_compared_shown_and_copied(self) -> None:
+        value = Variant("Some", [Variant("None")])
+        self.assertEqual(repr(value), "Variant('Some', [Variant('None', [])])")
+        self.assertEqual(value, Variant(name="Some", fields=[Variant("None", [])]))
+        for other in (Variant("Some", []), Variant("None", [Variant("None")]), ("Some", [Variant("None")]), None):
+            self.assertNotEqual(value, other)
+        copies = [pickle.loads(pickle.dumps(value, protocol)) for protocol in range(pickle.HIGHEST_PROTOCOL + 1)]
+        for other in (*copies, copy.copy(value), copy.deepcopy(value)):
+            self.assertEqual(other, value)
+        self.assertEqual(Variant.__match_args__, ("name", "fields"))
+        with self.assertRaises(TypeError):
+            hash(value)
+        with self.assertRaises(AttributeError):
+            value.name = "Other"  # type: ignore[misc]
+        with self.assertRaises(AttributeError):
+            value.other = 1  # type: ignore[attr-defined]
+        wrong: Any
+        for wrong in ((), ("a", 5), (5, []), ("a", None), ("a", Variant("b")), ("a", [], [])):
+            with self.assertRaises(TypeError):
+                Variant(*wrong)
+
+    @unittest.skipIf(sys.version_info < (3, 10), "there is no match statement before 3.10")
+    def test_variants_are_matched(self) -> None:
+        names: dict[str, Any] = {"value": Variant("Some", [{"a": 5}]), "Variant": Variant}
+        exec("match value:\n case Variant('Some', [{'a': found}]): pass", names)
+        self.assertEqual(names["found"], 5)
+
+    def test_empties_are_a_sequence(self) -> None:
+        empties = Empties(3)
+        self.assertEqual((len(empties), list(empties), empties[-1], empties[1:]), (3, [None] * 3, None, Empties(2)))
+        self.assertEqual(repr(empties), "Empties(3)")
+        self.assertEqual({empties, Empties(3)}, {pickle.loads(pickle.dumps(empties))})
+        self.assertNotEqual(empties, Empties(4))
+        with self.assertRaises(IndexError):
+            empties[3]
+        with self.assertRaises(AttributeError):
+            empties.count = 4
+        for number in (-1, 1 << 32):
+            with self.assertRaises(OverflowError):
+                Empties(number)
+
+
+class Encoding(unittest.TestCase):
+    registry = Registry(
+        make.registry_of(
+            make.primitive("u8"), make.sequence(0), make.primitive("str"), make.composite(("id", 0), ("names", 4)),
+            make.sequence(2), make.sequence(3),
+            make.variant(("Set", 0, (("all", 5),)), ("Pair", 1, ((None, 0), (None, 2)))),
+            make.members(), make.sequence(7), make.primitive("bool"), make.primitive("char"), make.array(2, 2),
+            make.array(2, 0), make.bits(0, 7), make.composite((None, 13)), make.variant(),
+            make.composite(("x", 0), ("v", 15)),
+            make.members(1, 16), make.variant(("Good", 0, ()), ("Bad", 1, ((None, 0), (None, 15)))),
+        )
+    )
+
+    def test_wrong_values_are_named_by_their_path(self) -> None:
+        right = {"id": 1, "names": ["a"]}
+        cases: list[tuple[int, Any, type, str]] = [
+            (0, "1", TypeError, "value: expected an int, not str"),
+            (0, True, TypeError, "value: expected an int, not bool"),
+            (0, 1.0, TypeError, "value: expected an int, not float"),
+            (0, 256, OverflowError, "value: the number is out of range of u8"),
+            (1, "ab", TypeError, "value: expected bytes, not str"),
+            (1, [1, 2], TypeError, "value: expected bytes, not list"),
+            (2, b"ab", TypeError, "value: expected a str, not bytes"),
+            (2, "a\ud800", ValueError, "value: the text has a surrogate"),
+            (3, [1, []], TypeError, "value: expected a dict, not list"),
+            (3, {"id": 1}, ValueError, "value: the field 'names' is missing"),
+            (3, {**right, "x": 0}, ValueError, "value: there is no field 'x'"),
+            (3, {"id": 1, "name": []}, ValueError, "value: the field 'names' is missing"),
+            (3, {"id": 1, "names": ["a", 5]}, TypeError, "value.names[1]: expected a str, not int"),
+            (4, "ab", TypeError, "value: expected a list or a tuple, not str"),
+            (4, {"a"}, TypeError, "value: expected a list or a tuple, not set"),
+            (5, [right, {"id": -1, "names": []}], OverflowError, "value[1].id: the number is out of range of u8"),
+            (6, "Set", TypeError, "value: expected a Variant or a pair of a name and fields, not str"),
+            (6, ("None", []), ValueError, "value: there is no arm 'None'"),
+            (6, ("Set", [[]]), TypeError, "value.Set: expected a dict, not list"),
+            (6, ("Set", {}), ValueError, "value.Set: the field 'all' is missing"),
+            (6, ("Set", {"all": [right, 5]}), TypeError, "value.Set.all[1]: expected a dict, not int"),
+            (6, Variant("Pair", [1]), ValueError, "value.Pair: expected 2 fields, not 1"),
+            (6, Variant("Pair", [1, None]), TypeError, "value.Pair[1]: expected a str, not NoneType"),
+            (7, (), TypeError, "value: expected None, not tuple"),
+            (8, [None, 1], TypeError, "value: expected an Empties or a list of None"),
+            (9, 1, TypeError, "value: expected a bool, not int"),
+            (10, "ab", ValueError, "value: expected a str of one character"),
+            (10, "\ud800", ValueError, "value: the character is a surrogate"),
+            (11, ["a"], ValueError, "value: expected 2 items, not 1"),
+            (12, b"a", ValueError, "value: expected 2 bytes, not 1"),
+        ]
+        for type_id, value, kind, message in cases:
+            with self.subTest(message), self.assertRaises(kind) as raised:
+                self.registry.encode(type_id, value)
+            self.assertEqual((type(raised.exception), str(raised.exception)), (kind, message))
+
+    def test_what_the_library_rejects_has_a_path(self) -> None:
+        cases: list[tuple[int, Any, int, str, int]] = [
+            (13, None, 64, "value: BitSequence", 0),
+            (14, [None], 64, "value[0]: BitSequence", 1),
+            (17, [b"", {"x": 1, "v": None}], 64, "value: NoFiniteValue", 0),
+            (18, ("Bad", [1, None]), 64, "value.Bad[1]: NoFiniteValue", 2),
+            (6, ("Set", {"all": [{"id": 1, "names": []}]}), 1, "value.Set.all[0]: TooDeep", 2),
+            (6, ("Set", {"all": [{"id": 1, "names": ["a"]}]}), 3, "value.Set.all[0].names[0]: TooDeep", 5),
+        ]
+        for type_id, value, depth, message, node in cases:
+            with self.subTest(message), self.assertRaises(EncodeError) as raised:
+                self.registry.encode(type_id, value, depth=depth)
+            error = raised.exception
+            self.assertEqual((str(error), error.node, error.part), (message, node, "value"))
+            self.assertEqual(f"{error.path}: {error.reason}", message)
+            self.assertGreater(error.code, 400)
+            for other in (pickle.loads(pickle.dumps(error)), copy.deepcopy(error)):
+                self.assertEqual((vars(other), str(other)), (vars(error), message))
+
+    def test_a_value_that_holds_itself_is_too_deep(self) -> None:
+        registry = Registry(make.registry_of(make.sequence(0)))
+        value: list[Any] = []
+        value.append(value)
+        for depth in (0, 64, 1024):
+            with self.assertRaises(EncodeError) as raised:
+                registry.encode(0, value, depth=depth)
+            self.assertEqual((raised.exception.reason, raised.exception.path), ("TooDeep", "value" + "[0]" * (depth + 1)))
+
+    def test_a_list_that_shrinks_meanwhile_is_rejected(self) -> None:
+        registry = Registry(make.registry_of(make.primitive("u8"), make.members(0), make.sequence(0), make.sequence(1)))
+        numbers: list[Any] = []
+
+        class Shrinking:
+            def __index__(self) -> int:
+                numbers.clear()
+                return 1
+
+        registry = Registry(make.registry_of(make.primitive("u16"), make.sequence(0)))
+        numbers.extend([Shrinking(), 2, 3])
+        with self.assertRaisesRegex(ValueError, r"^value\[1\]: the list got shorter meanwhile$"):
+            registry.encode(1, numbers)
+
+        class Failing:
+            def __index__(self) -> int:
+                raise KeyError("from the number")
+
+        with self.assertRaises(KeyError):
+            registry.encode(1, [Failing()])
+
+    def test_a_budget_of_memory_is_kept(self) -> None:
+        registry = Registry(make.registry_of(make.primitive("u16"), make.sequence(0)))
+        data = make.compact(1000) + bytes(2000)
+        value = registry.decode(1, data, memory=1 << 20)
+        self.assertEqual(registry.encode(1, value, memory=1 << 20), data)
+        decoder = Decoder(registry, 1, memory=1000)
+        calls: list[Callable[[], object]] = [
+            lambda: registry.decode(1, data, memory=1000),
+            lambda: registry.decode_json(1, data, memory=1000),
+            lambda: registry.decode_many(1, [data], memory=1000),
+            lambda: registry.encode(1, value, memory=1000),
+            lambda: decoder.feed(data),
+            decoder.finish,
+            decoder.finish_json,
+        ]
+        for call in calls:
+            with self.assertRaisesRegex(OutOfMemory, "memory"):
+                call()
+        self.assertIsInstance(pickle.loads(pickle.dumps(OutOfMemory("x"))), MemoryError)
+
+
+class Pieces(unittest.TestCase):
+    def test_a_decoder_counts(self) -> None:
+        registry = Registry(BYTES)
+        with Decoder(registry, 1) as decoder:
+            self.assertIsNone(decoder.feed(b""))
+            self.assertIsNone(decoder.feed(bytes.fromhex("0c0102")))
+            self.assertEqual((decoder.taken, decoder.nodes, decoder.text_bytes), (3, 0, 2))
+            self.assertEqual(decoder.feed(b"\xff\xff"), 1)
+            self.assertEqual(decoder.feed(b"\xff"), 0)
+            self.assertEqual((decoder.taken, decoder.nodes, decoder.text_bytes), (4, 1, 3))
+            for _ in range(2):
+                self.assertEqual((decoder.finish_json(), decoder.finish()), ('"0x0102ff"', b"\1\2\xff"))
+                self.assertEqual((decoder.taken, decoder.nodes, decoder.text_bytes), (4, 1, 3))
+            self.assertEqual(decoder.feed(b"\xff"), 0)
+            self.assertFalse(decoder.closed)
+        self.assertTrue(decoder.closed)
+        for call in (lambda: decoder.feed(b""), lambda: decoder.taken, decoder.finish, decoder.finish_json):
+            with self.assertRaisesRegex(ValueError, "^the decoder is closed$"):
+                call()
+        decoder.close()
+
+    def test_a_refusal_is_kept(self) -> None:
+        registry = Registry(U32)
+        cut = Decoder(registry, 0, limit=2)
+        self.assertIsNone(cut.feed(b"\1\2"))
+        for call in (cut.finish, cut.finish_json, cut.finish):
+            with self.assertRaisesRegex(Refused, "^value: Truncated at 2$"):
+                call()
+        decoder = Decoder(registry, 0, limit=2)
+        for _ in range(2):
+            with self.assertRaisesRegex(Refused, "^value: TooLong at 2$"):
+                decoder.feed(b"\1\2\3")
+            self.assertEqual((decoder.taken, decoder.nodes, decoder.text_bytes), (2, 0, 0))
+        for call in (decoder.finish, decoder.finish_json):
+            with self.assertRaisesRegex(Refused, "^value: TooLong at 2$"):
+                call()
+        with self.assertRaisesRegex(Refused, "^value: TooLong at 2$"):
+            registry.decode(0, b"\1\2\3\4", limit=2)
+
+    def test_a_decoder_keeps_its_registry(self) -> None:
+        decoder = Decoder(Registry(U16), 0)
+        self.assertIsNone(decoder.feed(b"\x07"))
+        self.assertEqual(decoder.feed(b"\x00"), 1)
+        self.assertEqual((decoder.finish_json(), decoder.finish()), ("7", 7))
+
+    def test_a_closed_registry_is_used_by_its_decoders_alone(self) -> None:
+        registry = Registry(U16)
+        first, second = Decoder(registry, 0), Decoder(registry, 0)
+        found = registry.types[0]
+        registry.close()
+        registry.close()
+        self.assertTrue(registry.closed)
+        calls: list[Callable[[], object]] = [
+            lambda: registry.decode(0, b"\x00\x00"),
+            lambda: registry.decode_json(0, b"\x00\x00"),
+            lambda: registry.decode_many(0, []),
+            lambda: registry.encode(0, 5),
+            lambda: registry.types[0],
+            lambda: registry.find(""),
+            lambda: registry.version,
+            lambda: registry.end,
+            lambda: found.kind,
+            lambda: str(found),
+            lambda: Decoder(registry, 0),
+        ]
+        for call in calls:
+            with self.assertRaisesRegex(ValueError, "^the registry is closed$"):
+                call()
+        first.close()
+        self.assertEqual(second.feed(b"\x02\x00\xff"), 2)
+        self.assertEqual(second.finish(), 2)
+        self.assertEqual(repr(registry), "<Registry, closed>")
+
+    def test_a_live_decoder_hides_no_exception(self) -> None:
+        with self.assertRaises(Refused) as raised:
+            with Registry(U16) as registry:
+                decoder = Decoder(registry, 0)
+                registry.decode(0, b"")
+        self.assertEqual(raised.exception.reason, "Truncated")
+        self.assertEqual(decoder.feed(b"\x02\x00"), 2)
+        self.assertEqual(decoder.finish(), 2)
+
+
+class Arguments(unittest.TestCase):
+    def test_numbers_out_of_range_are_named(self) -> None:
+        value = b"\x02\x00"
+        registry = Registry(U16)
+        calls: list[Callable[..., object]] = [
+            lambda type_id, **numbers: registry.decode(type_id, value, **numbers),
+            lambda type_id, **numbers: registry.decode(type_id, bytes(9000), **numbers),
+            lambda type_id, **numbers: registry.decode_json(type_id, value, **numbers),
+            lambda type_id, **numbers: registry.decode_many(type_id, [value], **numbers),
+            lambda type_id, **numbers: Decoder(registry, type_id, **numbers),
+        ]
+        for call in calls:
+            for number in (1 << 32, -(1 << 32), -1, 1 << 64, (1 << 64) - 1, 1 << 100_000):
+                with self.assertRaisesRegex(OverflowError, "^type is out of range: "):
+                    call(number)
+            numbers = [("depth", 65536), ("depth", 65600), ("depth", -1), ("limit", 1 << 64), ("limit", -1), ("memory", -1)]
+            for name, number in numbers:
+                with self.assertRaisesRegex(OverflowError, f"^{name} is out of range: "):
+                    call(0, **{name: number})
+            wrong: Any
+            for wrong in (0.0, "0", None, b"0"):
+                with self.assertRaises(TypeError):
+                    call(wrong)
+                with self.assertRaises(TypeError):
+                    call(0, depth=wrong)
+        for name, number in (("depth", 65600), ("memory", 1 << 64)):
+            with self.assertRaisesRegex(OverflowError, f"^{name} is out of range: "):
+                registry.encode(0, 1, **{name: number})
+        with self.assertRaisesRegex(OverflowError, "^type is out of range: "):
+            registry.encode(1 << 32, 1)
+
+    def test_numbers_in_range_reach_the_library(self) -> None:
+        registry = Registry(U16)
+        for limits in ({"depth": 65535}, {"depth": 1025}, {"limit": (1 << 64) - 1}):
+            for call in (registry.decode, registry.decode_json):
+                with self.assertRaisesRegex(Refused, "^limits: LimitOutOfRange$"):
+                    call(0, b"\x02\x00", **limits)
+            with self.assertRaisesRegex(Refused, "^limits: LimitOutOfRange$"):
+                Decoder(registry, 0, **limits)
+        with self.assertRaisesRegex(Refused, "^limits: LimitOutOfRange$"):
+            registry.encode(0, 2, depth=1025)
+        for number in ((1 << 32) - 1, 1):
+            calls: list[Callable[[], object]] = [
+                lambda: registry.decode(number, b""),
+                lambda: registry.encode(number, 1),
+                lambda: Decoder(registry, number),
+            ]
+            for unknown in calls:
+                with self.assertRaisesRegex(Refused, f"^type: UnknownType {number}$"):
+                    unknown()
+        self.assertEqual(registry.decode(0, b"\x02\x00", depth=1024, limit=1 << 40, memory=(1 << 64) - 1), 2)
+        self.assertEqual(registry.decode(data=b"\x02\x00", type=0), 2)
+
+    def test_any_buffer_is_taken(self) -> None:
+        def kinds(data: bytes) -> list[Any]:
+            mapped = mmap.mmap(-1, len(data))
+            mapped[:] = data
+            doubled = bytes(byte for byte in data for _ in range(2))
+            views = [memoryview(data), memoryview(bytearray(data)), memoryview(doubled)[::2]]
+            return [bytearray(data), array.array("B", data), mapped, *views]
+
+        for opened, value in zip(kinds(BYTES), kinds(bytes.fromhex("0c0102ff"))):
+            registry = Registry(opened)
+            decoder = Decoder(registry, 1)
+            self.assertEqual(registry.decode(1, value), b"\1\2\xff")
+            self.assertEqual(registry.decode_json(1, value), '"0x0102ff"')
+            self.assertEqual(registry.decode_many(1, [value]), [b"\1\2\xff"])
+            self.assertEqual(decoder.feed(value), 4)
+        self.assertEqual(Registry(U16).decode(0, memoryview(b"\x02\x00").cast("H")), 2)
+
+    def test_what_has_no_buffer_is_a_type_error(self) -> None:
+        wrong: Any
+        registry = Registry(U16)
+        decoder = Decoder(registry, 0)
+        for wrong in ("00", None, 2, [2, 0]):
+            for call in (Registry, Registry.raw, lambda data: registry.decode(0, data), decoder.feed):
+                with self.assertRaisesRegex(TypeError, f"^expected bytes .* not {type(wrong).__name__}$"):
+                    call(wrong)
+
+    def test_a_length_is_the_buffers(self) -> None:
+        class Lying(bytes):
+            def __len__(self) -> int:
+                return lie
+
+        for lie in (0, 1, 100, 1 << 40):
+            registry = Registry(Lying(U16))
+            decoder = Decoder(registry, 0)
+            self.assertEqual(registry.decode(0, Lying(b"\x02\x00")), 2)
+            self.assertEqual(registry.decode_json(0, Lying(b"\x02\x00")), "2")
+            self.assertEqual(decoder.feed(Lying(b"\x02")), None)
+            self.assertEqual(decoder.feed(Lying(b"\x00")), 1)
+            self.assertEqual(Registry(BYTES).encode(1, Lying(b"ab")), b"\x08ab")
+
+    def test_metadata_is_recognised(self) -> None:
+        for version in (14, 15):
+            data = b"meta" + bytes([version]) + U16 + b"\xff"
+            for registry in (Registry(data), Registry(data, metadata=True), Registry(bytearray(data))):
+                self.assertEqual((registry.version, registry.end), (version, 5 + len(U16)))
+                self.assertEqual(registry.decode(0, b"\2\0"), 2)
+            for call in (lambda: Registry.raw(data), lambda: Registry(data, metadata=False)):
+                with self.assertRaisesRegex(Refused, "^registry: IdOutOfPlace at 2$"):
+                    call()
+        registry = Registry(U16)
+        self.assertEqual((registry.version, registry.end), (None, len(U16)))
+        self.assertEqual(Registry.raw(U16).version, None)
+        for data, message in ((b"meta\x10", "WrongVersion at 4"), (b"meta", "Truncated at 4")):
+            with self.assertRaisesRegex(Refused, f"^registry: {message}$"):
+                Registry(data)
+        with self.assertRaisesRegex(Refused, "^registry: NotMetadata at 0$"):
+            Registry(U16, metadata=True)
+
+
+class Types(unittest.TestCase):
+    def test_types_are_described(self) -> None:
+        registry = Registry(
+            make.registry_of(
+                make.primitive("u8"), make.composite(("x", 0), (None, 2)),
+                make.variant(("End", 7, ()), ("Next", 9, (("n", 0), (None, 3)))), make.sequence(0), make.array(5, 3),
+                make.members(0, 1), make.compact_of(0), make.bits(0, 8), make.members(), make.variant(),
+                _1="a::Pair", _2="a::Pair",
+            )
+        )
+        self.assertEqual(repr(registry), "<Registry of 10 types>")
+        self.assertEqual((len(registry.types), repr(registry.types)), (10, "<10 types>"))
+        kinds = "u8 composite variant sequence array tuple compact bitsequence tuple variant".split()
+        self.assertEqual([found.kind for found in registry.types], kinds)
+        self.assertEqual([found.id for found in registry.types], list(range(10)))
+        self.assertEqual([found.path for found in registry.types], ["", "a::Pair", "a::Pair", *[""] * 7])
+        self.assertEqual([found.element for found in registry.types], [None, None, None, 0, 3, None, 0, 0, None, None])
+        self.assertEqual([found.length for found in registry.types], [*[None] * 4, 5, *[None] * 5])
+        self.assertEqual([found.order for found in registry.types], [*[None] * 7, 8, None, None])
+        self.assertEqual([found.size_class for found in registry.types], [*["Sized"] * 8, "Empty", "NoValue"])
+        self.assertEqual(registry.types[1].fields, [Field("x", 0), Field(None, 2)])
+        self.assertEqual(registry.types[5].fields, [Field(None, 0), Field(None, 1)])
+        self.assertEqual(registry.types[1].variants + registry.types[0].variants, [])
+        arms = [Arm("End", 7, []), Arm("Next", 9, [Field("n", 0), Field(None, 3)])]
+        self.assertEqual((registry.types[2].variants, registry.types[2].fields), (arms, []))
+        self.assertEqual(str(registry.types[1]), '1 Sized composite "a::Pair"')
+        self.assertEqual(repr(registry.types[1]), "<Type 1 composite a::Pair>")
+        self.assertEqual(repr(registry.types[0]), "<Type 0 u8>")
+
+    def test_types_are_a_sequence(self) -> None:
+        registry = Registry(make.registry_of(*map(make.primitive, make.PRIMITIVES)))
+        types = registry.types
+        self.assertEqual((types[-1], types[3:5]), (types[14], [types[3], types[4]]))
+        self.assertEqual(len({types[1], types[1], types[2]}), 2)
+        self.assertIn(types[2], types)
+        self.assertNotEqual(types[0], Registry(U16).types[0])
+        for index in (15, -16, 1 << 64):
+            with self.assertRaises(IndexError):
+                types[index]
+
+    def test_types_are_found(self) -> None:
+        registry = Registry((EXAMPLES / "runtime" / "metadata.scale").read_bytes())
+        record = registry.find("frame_system::EventRecord")
+        assert record
+        self.assertEqual((record.id, record.kind), (11, "composite"))
+        self.assertEqual(registry.find_all("frame_system::EventRecord"), [record])
+        options = registry.find_all("Option")
+        self.assertGreater(len(options), 3)
+        self.assertEqual({found.path for found in options}, {"Option"})
+        self.assertEqual(len(registry.find_all("")), sum(not found.path for found in registry.types))
+        self.assertEqual((registry.find("frame_system"), registry.find_all("x::Y")), (None, []))
+        lines = (EXAMPLES / "runtime" / "types.txt").read_text().splitlines()
+        self.assertEqual([str(found) for found in registry.types], lines)
+        with self.assertRaises(TypeError):
+            registry.find(5)  # type: ignore[arg-type]
+        with self.assertRaises(ValueError):
+            registry.find("\ud800")
+
+    def test_a_type_stands_for_its_position(self) -> None:
+        registry, other = Registry(BYTES), Registry(BYTES)
+        found = registry.types[1]
+        data = b"\x04a"
+        self.assertEqual(registry.decode(found, data), b"a")
+        self.assertEqual(registry.encode(found, b"a"), data)
+        self.assertEqual(registry.decode_many(found, [data]), [b"a"])
+        self.assertEqual(Decoder(registry, found).feed(data), 2)
+        for call in (lambda: other.decode(found, data), lambda: Decoder(other, found), lambda: other.encode(found, b"a")):
+            with self.assertRaisesRegex(ValueError, "^the type belongs to another registry$"):
+                call()
+        with self.assertRaisesRegex(Refused, "^type: UnknownType 9$"):
+            Type(registry, 9).kind
+
+
+class Answers(unittest.TestCase):
+    def test_refusals_have_reason_and_place(self) -> None:
+        registry = Registry(U16)
+        with self.assertRaises(Refused) as raised:
+            registry.decode(0, b"\x01")
+        refused = raised.exception
+        self.assertIsInstance(refused, ValueError)
+        self.assertEqual((refused.code, refused.part, refused.reason, refused.place), (301, "value", "Truncated", 1))
+        self.assertEqual((str(refused), refused.item), ("value: Truncated at 1", None))
+        with self.assertRaises(Refused) as raised:
+            Decoder(registry, 1)
+        self.assertEqual((raised.exception.code, raised.exception.place), (201, None))
+        self.assertEqual(str(raised.exception), "type: UnknownType 1")
+        with self.assertRaises(Refused) as raised:
+            Registry(bytes.fromhex("04000000020400"))
+        self.assertEqual(str(raised.exception), "check: UnknownType 1 in type 0")
+        self.assertEqual((raised.exception.place, raised.exception.from_type, raised.exception.to_type), (None, 0, 1))
+
+    def test_handles_are_not_copied(self) -> None:
+        registry = Registry(U16)
+        for handle in (registry, Decoder(registry, 0)):
+            for call in (copy.copy, copy.deepcopy, pickle.dumps):
+                with self.assertRaises(TypeError):
+                    call(handle)
+
+    def test_exceptions_are_pickled_and_copied(self) -> None:
+        raised: list[Refused] = []
+        for call in (
+            lambda: Registry(b"\x04\x04"),
+            lambda: Registry(bytes.fromhex("08000000050300040000020800")),
+            lambda: Registry(U16).decode(0, b"\x01"),
+            lambda: Registry(U16).decode(1, b"\x01"),
+            lambda: Registry(U16).decode(0, b"\x01", depth=1025),
+            lambda: Registry(U16).decode_many(0, [b"\x01"]),
+        ):
+            with self.assertRaises(Refused) as context:
+                call()
+            raised.append(context.exception)
+        self.assertEqual([refused.code for refused in raised], [108, 112, 301, 201, 202, 301])
+        for refused in raised:
+            refused.note = "kept"  # type: ignore[attr-defined]
+            copies = [pickle.loads(pickle.dumps(refused, protocol)) for protocol in range(pickle.HIGHEST_PROTOCOL + 1)]
+            # As `multiprocessing` sends what a worker raises.
+            copies.append(pickle.loads(ForkingPickler.dumps(refused)))
+            for other in (*copies, copy.copy(refused), copy.deepcopy(refused)):
+                self.assertIs(type(other), Refused)
+                self.assertEqual((vars(other), str(other)), (vars(refused), str(refused)))
+
+    def test_a_process_pool_raises_what_its_worker_raised(self) -> None:
+        program = (
+            "import concurrent.futures, multiprocessing, scaleview\n"
+            "def work(data):\n"
+            "    return scaleview.Registry(bytes.fromhex('04000000050400')).decode(0, data)\n"
+            "if __name__ == '__main__':\n"
+            "    with multiprocessing.Pool(2) as pool:\n"
+            "        print(pool.map(work, [b'ab', b'cd']))\n"
+            "        try: pool.map(work, [b'ab', b'c'])\n"
+            "        except scaleview.Refused as refused: print(refused)\n"
+            "    with concurrent.futures.ProcessPoolExecutor(1) as pool:\n"
+            "        try: pool.submit(work, b'c').result()\n"
+            "        except scaleview.Refused as refused: print(refused.place, refused.reason)\n"
+        )
+        with tempfile.TemporaryDirectory() as folder:
+            path = pathlib.Path(folder) / "pools.py"
+            path.write_text(program)
+            command = [sys.executable, str(path)]
+            printed = subprocess.run(command, stdout=subprocess.PIPE, universal_newlines=True, timeout=120)
+        self.assertEqual(printed.stdout, "[25185, 25699]\nvalue: Truncated at 1\n1 Truncated\n")
+
+
+class Building(unittest.TestCase):
+    def run_backend(self, program: str, **variables: str) -> subprocess.CompletedProcess[str]:
+        return subprocess.run(
+            [sys.executable, "-c", program],
+            cwd=CLIENT,
+            env={**os.environ, "PYTHONDONTWRITEBYTECODE": "1", **variables},
+            stdout=subprocess.PIPE,
+            stderr=subprocess.PIPE,
+            universal_newlines=True,
+        )
+
+    def test_a_wheel_is_used_from_any_folder(self) -> None:
+        with tempfile.TemporaryDirectory() as folder:
+            built = self.run_backend(f"import build_backend; print(build_backend.build_wheel({folder!r}))")
+            self.assertEqual(built.returncode, 0, built.stderr)
+            wheel = pathlib.Path(folder) / built.stdout.strip()
+            self.assertRegex(wheel.name, r"^scaleview-0\.2\.0-cp38-abi3-\w+\.whl$")
+            with zipfile.ZipFile(wheel) as opened:
+                opened.extractall(folder)
+                names = opened.namelist()
+            for name in ("__init__.py", "_native.pyi", "py.typed", "_native.abi3.so"):
+                self.assertIn(f"scaleview/{name}", names)
+            ended = subprocess.run(
+                [sys.executable, "-I", "-c", f"import sys; sys.path[:0] = [{folder!r}]; import scaleview as s; "
+                 "print(s.__file__, s.__version__, s.Registry(bytes.fromhex('04000000050300')).decode(0, b'*'))"],
+                cwd="/", stdout=subprocess.PIPE, universal_newlines=True,
+            )
+        self.assertEqual(ended.stdout, f"{folder}/scaleview/__init__.py 0.2.0 42\n")
+
+    def test_an_sdist_has_all_sources(self) -> None:
+        with tempfile.TemporaryDirectory() as folder:
+            built = self.run_backend(
+                f"import build_backend as b, tarfile; name = b.build_sdist({folder!r}); "
+                f"tarfile.open({folder!r} + '/' + name).extractall({folder!r})"
+            )
+            self.assertEqual(built.returncode, 0, built.stderr)
+            sources = pathlib.Path(folder) / "scaleview-0.2.0"
+            archive = os.environ.get("SCALEVIEW_LIB_DIR", str(CLIENT.parent / "out"))
+            ended = subprocess.run(
+                [sys.executable, "build_backend.py", "made"],
+                cwd=sources,
+                env={**os.environ, "SCALEVIEW_LIB_DIR": archive},
+                stderr=subprocess.PIPE,
+                universal_newlines=True,
+            )
+            self.assertEqual((ended.returncode, ended.stderr), (0, ""))
+            self.assertTrue((sources / "made" / "scaleview" / "_native.abi3.so").exists())
+
+    def test_what_is_missing_is_explained_in_a_line(self) -> None:
+        with tempfile.TemporaryDirectory() as folder:
+            program = f"import build_backend; build_backend.build_wheel({folder!r})"
+            missing = [({"SCALEVIEW_LIB_DIR": folder}, "libscaleview.a is missing"), ({"CC": "no-cc"}, "`no-cc`")]
+            for variables, word in missing:
+                ended = self.run_backend(program, **variables)
+                self.assertEqual(ended.returncode, 1)
+                (line,) = ended.stderr.splitlines()
+                self.assertTrue(line.startswith("scaleview: "))
+                self.assertIn(word, line)
+                self.assertIn("`bash clients/build`", line)
+
+    def test_versions_agree(self) -> None:
+        self.assertIn(f'version = "{scaleview.__version__}"', (CLIENT / "pyproject.toml").read_text())
+        self.assertIn(f'"{scaleview.__version__}"', (CLIENT / "build_backend.py").read_text())
+        header = (CLIENT.parent / "c" / "scaleview.h").read_text()
+        self.assertIn(f"#define SCALEVIEW_VERSION {scaleview._native.LIBRARY_VERSION}\n", header)
+
+
+if __name__ == "__main__":
+    unittest.main()
