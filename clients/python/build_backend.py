@@ -27,7 +27,7 @@ import zipfile
 from typing import Any, Dict, List, Optional, Tuple
 
 HERE = pathlib.Path(__file__).resolve().parent
-NAME, VERSION = "scaleview", "0.2.0"
+NAME, VERSION = "scaleview", "0.1.0"
 EXTENSION = "_native.abi3.so"
 # The oldest date that a zip file can have, so that equal sources make equal wheels.
 DATE = (1980, 1, 1, 0, 0, 0)

@@ -768,7 +768,7 @@ class Building(unittest.TestCase):
                  "print(s.__file__, s.__version__, s.Registry(bytes.fromhex('04000000050300')).decode(0, b'*'))"],
                 cwd="/", stdout=subprocess.PIPE, universal_newlines=True,
             )
-        self.assertEqual(ended.stdout, f"{folder}/scaleview/__init__.py 0.2.0 42\n")
+        self.assertEqual(ended.stdout, f"{folder}/scaleview/__init__.py 0.1.0 42\n")
 
     def test_an_sdist_has_all_sources(self) -> None:
         with tempfile.TemporaryDirectory() as folder:
@@ -777,7 +777,7 @@ class Building(unittest.TestCase):
                 f"tarfile.open({folder!r} + '/' + name).extractall({folder!r})"
             )
             self.assertEqual(built.returncode, 0, built.stderr)
-            sources = pathlib.Path(folder) / "scaleview-0.2.0"
+            sources = pathlib.Path(folder) / "scaleview-0.1.0"
             archive = os.environ.get("SCALEVIEW_LIB_DIR", str(CLIENT.parent / "out"))
             ended = subprocess.run(
                 [sys.executable, "build_backend.py", "made"],

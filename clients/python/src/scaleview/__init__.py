@@ -30,7 +30,7 @@ from . import _native
 from ._base import Empties, EncodeError, OutOfMemory, Refused
 from ._native import DEPTH, LIMIT, Decoder, Variant
 
-__version__ = "0.2.0"
+__version__ = "0.1.0"
 __all__ = [
     "Registry",
     "Decoder",
