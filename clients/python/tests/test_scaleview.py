@@ -757,7 +757,7 @@ class Building(unittest.TestCase):
             built = self.run_backend(f"import build_backend; print(build_backend.build_wheel({folder!r}))")
             self.assertEqual(built.returncode, 0, built.stderr)
             wheel = pathlib.Path(folder) / built.stdout.strip()
-            self.assertRegex(wheel.name, r"^scaleview-0\.2\.0-cp38-abi3-\w+\.whl$")
+            self.assertRegex(wheel.name, r"^scaleview-0\.1\.0-cp38-abi3-\w+\.whl$")
             with zipfile.ZipFile(wheel) as opened:
                 opened.extractall(folder)
                 names = opened.namelist()
