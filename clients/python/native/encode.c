@@ -299,14 +299,16 @@ static int fail_keys(const struct writer *writer, const struct fields *fields, P
         if (!PyDict_GetItemWithError(value, fields->names[i]) && !PyErr_Occurred())
             return fail(writer, PyExc_ValueError, "the field %R is missing", fields->names[i]);
     }
-    for (Py_ssize_t at = 0; PyDict_Next(value, &at, &key, &item);) {
-        int is_name = 0;
-        for (uint32_t i = 0; i < fields->count && is_name == 0; i++)
-            is_name = PyObject_RichCompareBool(key, fields->names[i], Py_EQ);
-        if (is_name == 0) return fail(writer, PyExc_ValueError, "there is no field %R", key);
-        if (is_name < 0) return -1;
+    PyObject *names = PySet_New(NULL);
+    int is_name = names ? 1 : -1;
+    for (uint32_t i = 0; i < fields->count && is_name > 0; i++) {
+        if (PySet_Add(names, fields->names[i]) < 0) is_name = -1;
     }
-    return fail(writer, PyExc_ValueError, "the fields are wrong");
+    for (Py_ssize_t at = 0; is_name > 0 && PyDict_Next(value, &at, &key, &item);) is_name = PySet_Contains(names, key);
+    Py_XDECREF(names);
+    if (is_name < 0) return -1;
+    if (is_name == 0) return fail(writer, PyExc_ValueError, "there is no field %R", key);
+    return fail(writer, PyExc_ValueError, "the fields changed meanwhile");
 }
 
 /* Adds the node of fields, of an arm if there is one, and goes on with them. */

@@ -10,9 +10,12 @@ import mmap
 import os
 import pathlib
 import pickle
+import re
+import shutil
 import subprocess
 import sys
 import tempfile
+import time
 import unittest
 import zipfile
 from multiprocessing.reduction import ForkingPickler
@@ -351,6 +354,19 @@ class Encoding(unittest.TestCase):
             self.assertGreater(error.code, 400)
             for other in (pickle.loads(pickle.dumps(error)), copy.deepcopy(error)):
                 self.assertEqual((vars(other), str(other)), (vars(error), message))
+
+    def test_many_fields_are_compared_at_once(self) -> None:
+        count = 100_000
+        fields = [(f"f{number}", 0) for number in range(count)]
+        registry = Registry(
+            make.registry_of(make.members(), make.composite(*fields, ("x", 2)), make.primitive("u8"))
+        )
+        value = registry.decode(1, b"\5")
+        self.assertEqual((len(value), registry.encode(1, value)), (count + 1, b"\5"))
+        start = time.process_time()
+        with self.assertRaisesRegex(ValueError, "^value: there is no field 'y'$"):
+            registry.encode(1, {**value, "y": 0})
+        self.assertLess(time.process_time() - start, 5)
 
     def test_a_value_that_holds_itself_is_too_deep(self) -> None:
         registry = Registry(make.registry_of(make.sequence(0)))
@@ -800,6 +816,41 @@ class Building(unittest.TestCase):
                 self.assertTrue(line.startswith("scaleview: "))
                 self.assertIn(word, line)
                 self.assertIn("`bash clients/build`", line)
+
+    def import_from(self, folder: pathlib.Path) -> str:
+        """The last line of what an import from this folder prints."""
+        ended = subprocess.run(
+            [sys.executable, "-c", "import scaleview"],
+            cwd="/",
+            env={**os.environ, "PYTHONPATH": str(folder), "PYTHONDONTWRITEBYTECODE": "1"},
+            stderr=subprocess.PIPE,
+            universal_newlines=True,
+        )
+        return (ended.stderr.splitlines() or [""])[-1]
+
+    def test_sources_without_the_extension_are_explained(self) -> None:
+        with tempfile.TemporaryDirectory() as folder:
+            shutil.copytree(CLIENT / "src", pathlib.Path(folder) / "src", ignore=shutil.ignore_patterns("*.so"))
+            line = self.import_from(pathlib.Path(folder) / "src")
+        self.assertRegex(line, "^ImportError: scaleview can't be loaded: install it by `pip install ./clients/python`")
+
+    def test_another_version_of_the_library_is_not_used(self) -> None:
+        with tempfile.TemporaryDirectory() as folder:
+            copy_of = pathlib.Path(folder)
+            for name in ("native", "src"):
+                shutil.copytree(CLIENT / name, copy_of / name, ignore=shutil.ignore_patterns("*.so"))
+            shutil.copy(CLIENT / "build_backend.py", copy_of)
+            header = (CLIENT.parent / "c" / "scaleview.h").read_text()
+            changed = re.sub("#define SCALEVIEW_VERSION .*", "#define SCALEVIEW_VERSION 654321", header)
+            (copy_of / "native" / "scaleview.h").write_text(changed)
+            archive = os.environ.get("SCALEVIEW_LIB_DIR", str(CLIENT.parent / "out"))
+            built = subprocess.run(
+                [sys.executable, "build_backend.py", "made"], cwd=copy_of, env={**os.environ, "SCALEVIEW_LIB_DIR": archive}
+            )
+            self.assertEqual(built.returncode, 0)
+            line = self.import_from(copy_of / "made")
+        version = scaleview._native.LIBRARY_VERSION
+        self.assertIn(f"built with the header 654321 and the library {version}: run `bash clients/build`", line)
 
     def test_versions_agree(self) -> None:
         self.assertIn(f'version = "{scaleview.__version__}"', (CLIENT / "pyproject.toml").read_text())
