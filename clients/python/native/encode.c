@@ -377,7 +377,7 @@ static int put_variant(struct writer *writer, uint32_t type, const struct type_i
     } else {
         return expected(writer, "a Variant or a pair of a name and fields", value);
     }
-    uint32_t arm;
+    uint32_t arm = 0;
     if (find_arm(writer, info, name, fields, &arm) < 0) return -1;
     const struct arm *of_arm = &info->arms[arm];
     scaleview_node node = {SCALEVIEW_NODE_ARM, type, 0, arm, 0, 0};

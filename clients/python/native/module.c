@@ -45,7 +45,7 @@ PyMODINIT_FUNC PyInit__native(void) {
         return NULL;
     }
     PyObject *module = PyModule_Create(&definition);
-    if (module && import_classes() == 0 && make_variant_class(module) == 0 && make_registry_class(module) == 0 &&
+    if (module && choose_interning() == 0 && import_classes() == 0 && make_variant_class(module) == 0 && make_registry_class(module) == 0 &&
         make_decoder_class(module) == 0 && PyModule_AddIntConstant(module, "DEPTH", DEPTH) == 0 &&
         PyModule_AddIntConstant(module, "LIMIT", LIMIT) == 0 &&
         PyModule_AddIntConstant(module, "LIBRARY_VERSION", (long)version) == 0)

@@ -340,7 +340,7 @@ static PyMethodDef methods[] = {
 };
 
 static PyType_Slot slots[] = {
-    {Py_tp_doc, "The part of a Registry that is written in C."},
+    {Py_tp_doc, "Registry(data, *, metadata=None)\n--\n\nThe part of a registry that is written in C."},
     {Py_tp_new, registry_new},
     {Py_tp_dealloc, registry_dealloc},
     {Py_tp_methods, methods},

@@ -5,7 +5,7 @@ from __future__ import annotations
 import array
 import copy
 import doctest
-import json
+import inspect
 import mmap
 import os
 import pathlib
@@ -594,6 +594,20 @@ class Arguments(unittest.TestCase):
             self.assertEqual(decoder.feed(Lying(b"\x02")), None)
             self.assertEqual(decoder.feed(Lying(b"\x00")), 1)
             self.assertEqual(Registry(BYTES).encode(1, Lying(b"ab")), b"\x08ab")
+
+    @unittest.skipIf(sys.version_info < (3, 11), "older versions know no signatures of such classes")
+    def test_signatures_are_shown(self) -> None:
+        rest = "depth=64, limit=16777216, memory=0)"
+        for call, signature in (
+            (Registry, "(data, *, metadata=None)"),
+            (Registry.decode, f"(self, /, type, data, *, {rest}"),
+            (Registry.decode_many, f"(self, /, type, items, *, {rest}"),
+            (Registry.encode, "(self, /, type, value, *, depth=64, memory=0)"),
+            (Decoder, f"(registry, type, *, {rest}"),
+            (Decoder.feed, "(self, piece, /)"),
+            (Variant, "(name, fields=[])"),
+        ):
+            self.assertEqual(str(inspect.signature(call)), signature)
 
     def test_metadata_is_recognised(self) -> None:
         for version in (14, 15):
