@@ -292,12 +292,12 @@ static int put_list(struct writer *writer, uint32_t type, const struct type_info
     return push_level(writer, (struct level){items, NULL, NULL, 0, (uint32_t)length, info->shape.element});
 }
 
-/* Raises what is wrong with the keys of a dict, whose number is another one. */
+/* Raises what is wrong with the keys of a dict. */
 static int fail_keys(const struct writer *writer, const struct fields *fields, PyObject *value) {
     PyObject *key, *item;
     for (uint32_t i = 0; i < fields->count; i++) {
-        if (!PyDict_GetItemWithError(value, fields->names[i]) && !PyErr_Occurred())
-            return fail(writer, PyExc_ValueError, "the field %R is missing", fields->names[i]);
+        if (PyDict_GetItemWithError(value, fields->names[i])) continue;
+        return PyErr_Occurred() ? -1 : fail(writer, PyExc_ValueError, "the field %R is missing", fields->names[i]);
     }
     PyObject *names = PySet_New(NULL);
     int is_name = names ? 1 : -1;

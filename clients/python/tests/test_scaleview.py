@@ -3,6 +3,7 @@
 from __future__ import annotations
 
 import array
+import ast
 import copy
 import doctest
 import inspect
@@ -395,8 +396,18 @@ class Encoding(unittest.TestCase):
             def __index__(self) -> int:
                 raise KeyError("from the number")
 
+            def __eq__(self, other: object) -> bool:
+                raise KeyError("from the key")
+
+            def __hash__(self) -> int:
+                return hash("a")
+
         with self.assertRaises(KeyError):
             registry.encode(1, [Failing()])
+        registry = Registry(make.registry_of(make.primitive("u16"), make.composite(("a", 0), ("b", 0))))
+        for wrong in ({Failing(): 1}, {Failing(): 1, "b": 2}):
+            with self.assertRaises(KeyError):
+                registry.encode(1, wrong)
 
     def test_a_budget_of_memory_is_kept(self) -> None:
         registry = Registry(make.registry_of(make.primitive("u16"), make.sequence(0)))
@@ -699,6 +710,21 @@ class Types(unittest.TestCase):
                 call()
         with self.assertRaisesRegex(Refused, "^type: UnknownType 9$"):
             Type(registry, 9).kind
+
+
+class Stubs(unittest.TestCase):
+    def test_stubs_name_what_is_there(self) -> None:
+        native: Any = scaleview._native
+        stub = ast.parse((pathlib.Path(scaleview.__file__).parent / "_native.pyi").read_text())
+        classes = [node for node in stub.body if isinstance(node, ast.ClassDef)]
+        self.assertEqual([node.name for node in classes], ["Variant", "Registry", "Decoder"])
+        for node in classes:
+            stubbed = {part.name for part in node.body if isinstance(part, ast.FunctionDef)}
+            there = set(vars(getattr(native, node.name)))
+            self.assertLessEqual(stubbed, there)
+            self.assertEqual({name for name in there if not name.startswith("__")} - stubbed, set())
+        for name in scaleview.__all__:
+            self.assertTrue(getattr(scaleview, name))
 
 
 class Answers(unittest.TestCase):
