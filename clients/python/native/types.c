@@ -13,7 +13,7 @@ enum { SHORT_TEXT = 256, INTERNED = 64 };
 
 static bool interns = false;
 
-/* Finds out whether names are interned, so that they are the keys that programs spell. Python 3.12 would never free them. */
+/* Finds out whether names are interned, so that they are the keys that programs spell. Python 3.12 would not free them. */
 int choose_interning(void) {
     PyObject *number = PySys_GetObject("hexversion");
     long version = number ? PyLong_AsLong(number) : -1;
