@@ -165,7 +165,7 @@ static PyObject *decoder_finish_json(PyObject *object, PyObject *unused) {
     size_t room = 0;
     (void)unused;
     for (;;) {
-        scaleview_answer answer;
+        scaleview_answer answer = {SCALEVIEW_MEMORY, 0, 0, 0};
         if (room == 0) room = 4 * (size_t)(self->taken < LIMIT ? self->taken : LIMIT) + 256;
         if (make_room(&scratch, 0, room) < 0) break;
         scaleview_session *session = begin(self);
@@ -174,7 +174,6 @@ static PyObject *decoder_finish_json(PyObject *object, PyObject *unused) {
         struct text_call text = {session, &scratch, &answer};
         bool is_long = self->taken >= LONG_INPUT || self->depth > DEPTH;
         PyThreadState *state = is_long ? PyEval_SaveThread() : NULL;
-        answer.code = SCALEVIEW_MEMORY;
         uint32_t code = with_stack(self->depth, finish_text, &text);
         if (state) PyEval_RestoreThread(state);
         leave(self->shared);

@@ -292,21 +292,23 @@ static int put_list(struct writer *writer, uint32_t type, const struct type_info
     return push_level(writer, (struct level){items, NULL, NULL, 0, (uint32_t)length, info->shape.element});
 }
 
-/* Raises what is wrong with the keys of a dict, whose number is another one. */
+/* Raises what is wrong with the keys of a dict. */
 static int fail_keys(const struct writer *writer, const struct fields *fields, PyObject *value) {
     PyObject *key, *item;
     for (uint32_t i = 0; i < fields->count; i++) {
-        if (!PyDict_GetItemWithError(value, fields->names[i]) && !PyErr_Occurred())
-            return fail(writer, PyExc_ValueError, "the field %R is missing", fields->names[i]);
+        if (PyDict_GetItemWithError(value, fields->names[i])) continue;
+        return PyErr_Occurred() ? -1 : fail(writer, PyExc_ValueError, "the field %R is missing", fields->names[i]);
     }
-    for (Py_ssize_t at = 0; PyDict_Next(value, &at, &key, &item);) {
-        int is_name = 0;
-        for (uint32_t i = 0; i < fields->count && is_name == 0; i++)
-            is_name = PyObject_RichCompareBool(key, fields->names[i], Py_EQ);
-        if (is_name == 0) return fail(writer, PyExc_ValueError, "there is no field %R", key);
-        if (is_name < 0) return -1;
+    PyObject *names = PySet_New(NULL);
+    int is_name = names ? 1 : -1;
+    for (uint32_t i = 0; i < fields->count && is_name > 0; i++) {
+        if (PySet_Add(names, fields->names[i]) < 0) is_name = -1;
     }
-    return fail(writer, PyExc_ValueError, "the fields are wrong");
+    for (Py_ssize_t at = 0; is_name > 0 && PyDict_Next(value, &at, &key, &item);) is_name = PySet_Contains(names, key);
+    Py_XDECREF(names);
+    if (is_name < 0) return -1;
+    if (is_name == 0) return fail(writer, PyExc_ValueError, "there is no field %R", key);
+    return fail(writer, PyExc_ValueError, "the fields changed meanwhile");
 }
 
 /* Adds the node of fields, of an arm if there is one, and goes on with them. */
@@ -375,7 +377,7 @@ static int put_variant(struct writer *writer, uint32_t type, const struct type_i
     } else {
         return expected(writer, "a Variant or a pair of a name and fields", value);
     }
-    uint32_t arm;
+    uint32_t arm = 0;
     if (find_arm(writer, info, name, fields, &arm) < 0) return -1;
     const struct arm *of_arm = &info->arms[arm];
     scaleview_node node = {SCALEVIEW_NODE_ARM, type, 0, arm, 0, 0};

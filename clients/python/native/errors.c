@@ -103,8 +103,8 @@ int read_limits(PyObject *depth, PyObject *limit, PyObject *memory, struct limit
     return memory ? read_number("memory", memory, 64, &limits->memory) : 0;
 }
 
-/* Returns an object that keeps the bytes of a buffer, and where they are. Bytes stay where they are, also a subclass's, whose
- * own `__len__` isn't asked. Others are copied, since they may change during a call. */
+/* Returns an object that keeps the bytes of a buffer, and where they are. Bytes stay where they are, also a subclass's,
+ * whose own `__len__` isn't asked. Others are copied, since they may change during a call. */
 PyObject *bytes_of(PyObject *data, const uint8_t **bytes, size_t *length) {
     PyObject *kept;
     if (PyBytes_Check(data)) {

@@ -40,13 +40,14 @@ PyMODINIT_FUNC PyInit__native(void) {
     uint32_t version = scaleview_version();
     if (version != SCALEVIEW_VERSION) {
         PyErr_Format(PyExc_ImportError,
-                     "scaleview was built with the header %u and the library %u: run `bash clients/build`, and install it again",
-                     SCALEVIEW_VERSION, version);
+                     "scaleview was built with the header %u and the library %u: run `bash clients/build`, and install it "
+                     "again", SCALEVIEW_VERSION, version);
         return NULL;
     }
     PyObject *module = PyModule_Create(&definition);
-    if (module && import_classes() == 0 && make_variant_class(module) == 0 && make_registry_class(module) == 0 &&
-        make_decoder_class(module) == 0 && PyModule_AddIntConstant(module, "DEPTH", DEPTH) == 0 &&
+    if (module && choose_interning() == 0 && import_classes() == 0 && make_variant_class(module) == 0 &&
+        make_registry_class(module) == 0 && make_decoder_class(module) == 0 &&
+        PyModule_AddIntConstant(module, "DEPTH", DEPTH) == 0 &&
         PyModule_AddIntConstant(module, "LIMIT", LIMIT) == 0 &&
         PyModule_AddIntConstant(module, "LIBRARY_VERSION", (long)version) == 0)
         return module;

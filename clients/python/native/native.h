@@ -123,6 +123,7 @@ PyObject *bytes_of(PyObject *data, const uint8_t **bytes, size_t *length);
 
 /* types.c: what a registry says about its types. */
 extern const char *const primitive_names[15];
+int choose_interning(void);
 const struct type_info *info_of(struct shared *shared, uint32_t type);
 void free_info(struct type_info *info);
 PyObject *shape_tuple(struct shared *shared, uint32_t type);

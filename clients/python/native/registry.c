@@ -157,7 +157,7 @@ static uint32_t decode_text(void *context) {
 
 static PyObject *registry_decode_json(PyObject *self, PyObject *args, PyObject *keywords) {
     struct call call;
-    scaleview_answer answer;
+    scaleview_answer answer = {SCALEVIEW_MEMORY, 0, 0, 0};
     const uint8_t *bytes;
     size_t length;
     if (read_call(self, args, keywords, "OO|$OOO:decode_json", decode_names, &call) < 0) return NULL;
@@ -169,7 +169,6 @@ static PyObject *registry_decode_json(PyObject *self, PyObject *args, PyObject *
         enter(call.shared, false);
         bool is_long = length >= LONG_INPUT || call.limits.depth > DEPTH;
         PyThreadState *state = is_long ? PyEval_SaveThread() : NULL;
-        answer.code = SCALEVIEW_MEMORY;
         uint32_t code = with_stack(call.limits.depth, decode_text, &text);
         if (state) PyEval_RestoreThread(state);
         leave(call.shared);
@@ -341,7 +340,7 @@ static PyMethodDef methods[] = {
 };
 
 static PyType_Slot slots[] = {
-    {Py_tp_doc, "The part of a Registry that is written in C."},
+    {Py_tp_doc, "Registry(data, *, metadata=None)\n--\n\nThe part of a registry that is written in C."},
     {Py_tp_new, registry_new},
     {Py_tp_dealloc, registry_dealloc},
     {Py_tp_methods, methods},

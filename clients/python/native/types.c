@@ -11,6 +11,17 @@ static const char *const class_names[] = {"NoValue", "Empty", "Sized"};
 
 enum { SHORT_TEXT = 256, INTERNED = 64 };
 
+static bool interns = false;
+
+/* Finds out whether names are interned, so that they are the keys that programs spell. Python 3.12 would not free them. */
+int choose_interning(void) {
+    PyObject *number = PySys_GetObject("hexversion");
+    long version = number ? PyLong_AsLong(number) : -1;
+    if (version == -1 && PyErr_Occurred()) return -1;
+    interns = version >> 16 != 0x030c;
+    return 0;
+}
+
 /* A text of the registry, which is of a type, of one of its arms, or of a field of either. */
 struct text_of {
     uint32_t (*read)(const struct text_of *text, uint8_t *out, size_t room, scaleview_answer *answer);
@@ -58,7 +69,7 @@ static PyObject *read_text(const struct text_of *text, scaleview_answer *answer)
     else
         raise_answer(answer, text->type, -1);
     free(many);
-    if (made && answer->length <= INTERNED) PyUnicode_InternInPlace(&made);
+    if (made && interns && answer->length <= INTERNED) PyUnicode_InternInPlace(&made);
     return made;
 }
 

@@ -3,16 +3,20 @@
 from __future__ import annotations
 
 import array
+import ast
 import copy
 import doctest
-import json
+import inspect
 import mmap
 import os
 import pathlib
 import pickle
+import re
+import shutil
 import subprocess
 import sys
 import tempfile
+import time
 import unittest
 import zipfile
 from multiprocessing.reduction import ForkingPickler
@@ -352,6 +356,19 @@ class Encoding(unittest.TestCase):
             for other in (pickle.loads(pickle.dumps(error)), copy.deepcopy(error)):
                 self.assertEqual((vars(other), str(other)), (vars(error), message))
 
+    def test_many_fields_are_compared_at_once(self) -> None:
+        count = 100_000
+        fields = [(f"f{number}", 0) for number in range(count)]
+        registry = Registry(
+            make.registry_of(make.members(), make.composite(*fields, ("x", 2)), make.primitive("u8"))
+        )
+        value = registry.decode(1, b"\5")
+        self.assertEqual((len(value), registry.encode(1, value)), (count + 1, b"\5"))
+        start = time.process_time()
+        with self.assertRaisesRegex(ValueError, "^value: there is no field 'y'$"):
+            registry.encode(1, {**value, "y": 0})
+        self.assertLess(time.process_time() - start, 5)
+
     def test_a_value_that_holds_itself_is_too_deep(self) -> None:
         registry = Registry(make.registry_of(make.sequence(0)))
         value: list[Any] = []
@@ -379,8 +396,18 @@ class Encoding(unittest.TestCase):
             def __index__(self) -> int:
                 raise KeyError("from the number")
 
+            def __eq__(self, other: object) -> bool:
+                raise KeyError("from the key")
+
+            def __hash__(self) -> int:
+                return hash("a")
+
         with self.assertRaises(KeyError):
             registry.encode(1, [Failing()])
+        registry = Registry(make.registry_of(make.primitive("u16"), make.composite(("a", 0), ("b", 0))))
+        for wrong in ({Failing(): 1}, {Failing(): 1, "b": 2}):
+            with self.assertRaises(KeyError):
+                registry.encode(1, wrong)
 
     def test_a_budget_of_memory_is_kept(self) -> None:
         registry = Registry(make.registry_of(make.primitive("u16"), make.sequence(0)))
@@ -579,6 +606,20 @@ class Arguments(unittest.TestCase):
             self.assertEqual(decoder.feed(Lying(b"\x00")), 1)
             self.assertEqual(Registry(BYTES).encode(1, Lying(b"ab")), b"\x08ab")
 
+    @unittest.skipIf(sys.version_info < (3, 11), "older versions know no signatures of such classes")
+    def test_signatures_are_shown(self) -> None:
+        rest = "depth=64, limit=16777216, memory=0)"
+        for call, signature in (
+            (Registry, "(data, *, metadata=None)"),
+            (Registry.decode, f"(self, /, type, data, *, {rest}"),
+            (Registry.decode_many, f"(self, /, type, items, *, {rest}"),
+            (Registry.encode, "(self, /, type, value, *, depth=64, memory=0)"),
+            (Decoder, f"(registry, type, *, {rest}"),
+            (Decoder.feed, "(self, piece, /)"),
+            (Variant, "(name, fields=[])"),
+        ):
+            self.assertEqual(str(inspect.signature(call)), signature)
+
     def test_metadata_is_recognised(self) -> None:
         for version in (14, 15):
             data = b"meta" + bytes([version]) + U16 + b"\xff"
@@ -669,6 +710,21 @@ class Types(unittest.TestCase):
                 call()
         with self.assertRaisesRegex(Refused, "^type: UnknownType 9$"):
             Type(registry, 9).kind
+
+
+class Stubs(unittest.TestCase):
+    def test_stubs_name_what_is_there(self) -> None:
+        native: Any = scaleview._native
+        stub = ast.parse((pathlib.Path(scaleview.__file__).parent / "_native.pyi").read_text())
+        classes = [node for node in stub.body if isinstance(node, ast.ClassDef)]
+        self.assertEqual([node.name for node in classes], ["Variant", "Registry", "Decoder"])
+        for node in classes:
+            stubbed = {part.name for part in node.body if isinstance(part, ast.FunctionDef)}
+            there = set(vars(getattr(native, node.name)))
+            self.assertLessEqual(stubbed, there)
+            self.assertEqual({name for name in there if not name.startswith("__")} - stubbed, set())
+        for name in scaleview.__all__:
+            self.assertTrue(getattr(scaleview, name))
 
 
 class Answers(unittest.TestCase):
@@ -800,6 +856,41 @@ class Building(unittest.TestCase):
                 self.assertTrue(line.startswith("scaleview: "))
                 self.assertIn(word, line)
                 self.assertIn("`bash clients/build`", line)
+
+    def import_from(self, folder: pathlib.Path) -> str:
+        """The last line of what an import from this folder prints."""
+        ended = subprocess.run(
+            [sys.executable, "-c", "import scaleview"],
+            cwd="/",
+            env={**os.environ, "PYTHONPATH": str(folder), "PYTHONDONTWRITEBYTECODE": "1"},
+            stderr=subprocess.PIPE,
+            universal_newlines=True,
+        )
+        return (ended.stderr.splitlines() or [""])[-1]
+
+    def test_sources_without_the_extension_are_explained(self) -> None:
+        with tempfile.TemporaryDirectory() as folder:
+            shutil.copytree(CLIENT / "src", pathlib.Path(folder) / "src", ignore=shutil.ignore_patterns("*.so"))
+            line = self.import_from(pathlib.Path(folder) / "src")
+        self.assertRegex(line, "^ImportError: scaleview can't be loaded: install it by `pip install ./clients/python`")
+
+    def test_another_version_of_the_library_is_not_used(self) -> None:
+        with tempfile.TemporaryDirectory() as folder:
+            copy_of = pathlib.Path(folder)
+            for name in ("native", "src"):
+                shutil.copytree(CLIENT / name, copy_of / name, ignore=shutil.ignore_patterns("*.so"))
+            shutil.copy(CLIENT / "build_backend.py", copy_of)
+            header = (CLIENT.parent / "c" / "scaleview.h").read_text()
+            changed = re.sub("#define SCALEVIEW_VERSION .*", "#define SCALEVIEW_VERSION 654321", header)
+            (copy_of / "native" / "scaleview.h").write_text(changed)
+            archive = os.environ.get("SCALEVIEW_LIB_DIR", str(CLIENT.parent / "out"))
+            built = subprocess.run(
+                [sys.executable, "build_backend.py", "made"], cwd=copy_of, env={**os.environ, "SCALEVIEW_LIB_DIR": archive}
+            )
+            self.assertEqual(built.returncode, 0)
+            line = self.import_from(copy_of / "made")
+        version = scaleview._native.LIBRARY_VERSION
+        self.assertIn(f"built with the header 654321 and the library {version}: run `bash clients/build`", line)
 
     def test_versions_agree(self) -> None:
         self.assertIn(f'version = "{scaleview.__version__}"', (CLIENT / "pyproject.toml").read_text())

@@ -382,6 +382,16 @@ class Memory(unittest.TestCase):
         gc.collect()
         return sys.getallocatedblocks() - before
 
+    def test_names_are_freed(self) -> None:
+        numbers = iter(range(1_000_000))
+
+        def call() -> None:
+            names = [(f"name{next(numbers)}", 0) for _ in range(20)]
+            registry = Registry(make.registry_of(make.primitive("u8"), make.composite(*names)))
+            registry.decode(1, bytes(20))
+
+        self.assertLess(min(self.blocks_left(call) for _ in range(5)), 100)
+
     def test_a_variant_in_a_cycle_is_freed(self) -> None:
         class Watched:
             pass

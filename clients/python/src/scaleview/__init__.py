@@ -26,7 +26,12 @@ from __future__ import annotations
 import os
 from typing import Any, Iterator, List, NamedTuple, Optional, Sequence, Tuple, TypeVar, Union, overload
 
-from . import _native
+try:
+    from . import _native
+except ImportError as error:
+    if getattr(error, "name", None) not in ("scaleview", "scaleview._native"):
+        raise
+    raise ImportError(f"scaleview can't be loaded: install it by `pip install ./clients/python` ({error})") from error
 from ._base import Empties, EncodeError, OutOfMemory, Refused
 from ._native import DEPTH, LIMIT, Decoder, Variant
 
