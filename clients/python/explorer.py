@@ -92,6 +92,17 @@ def encode_and_decode(registry: Registry) -> None:
         print(f"  {refused.reason} at byte {refused.place}")
 
 
+def encode_call(registry: Registry) -> None:
+    call = registry.find("polkadot_runtime::RuntimeCall")
+    assert call
+    transfer = Variant("transfer_allow_death", {"dest": Variant("Id", [(b"\x07" * 32,)]), "value": 10**12})
+    value = Variant("Balances", [transfer])
+    data = registry.encode(call, value)
+    assert registry.decode(call, data) == value
+    print(f"a call: 0x{data.hex()}")
+    print(registry.decode_json(call, data))
+
+
 def main() -> None:
     runtime = Registry((EXAMPLES / "runtime" / "metadata.scale").read_bytes())
     print(f"{runtime!r}, which ends at byte {runtime.end}")
@@ -100,6 +111,7 @@ def main() -> None:
     small = Registry((EXAMPLES / "account" / "registry.scale").read_bytes())
     show_transfers(small, (EXAMPLES / "account" / "events.scale").read_bytes())
     encode_and_decode(small)
+    encode_call(runtime)
 
 
 if __name__ == "__main__":

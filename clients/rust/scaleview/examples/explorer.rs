@@ -125,6 +125,27 @@ fn sum_balances(registry: &Registry, accounts: u32) -> Result<u128> {
     Ok(sum)
 }
 
+/// Writes the call of a transfer, and reads it again.
+fn show_call(registry: &Registry) -> Result<()> {
+    let id = registry
+        .find("polkadot_runtime::RuntimeCall")
+        .ok_or("no type of calls")?;
+    let dest = Item::variant("Id", [Item::fields([Item::bytes(&[7; 32])])]);
+    let fields = [("dest", dest), ("value", 1_000_000_000_000u128.into())];
+    let call = Item::variant(
+        "Balances",
+        [Item::named_variant("transfer_allow_death", fields)],
+    );
+    let bytes = registry.encode(id, &call)?;
+    let digits = bytes.iter().fold(String::new(), |mut text, byte| {
+        let _ = write!(text, "{byte:02x}");
+        text
+    });
+    println!("a call: 0x{digits}");
+    println!("{}", registry.decode(id, &bytes)?);
+    Ok(())
+}
+
 fn main() -> Result<()> {
     let words: Vec<String> = env::args().collect();
     let [_, metadata, events] = &words[..] else {
@@ -160,6 +181,7 @@ fn main() -> Result<()> {
     println!("{read}");
 
     println!("10000 accounts have {}", sum_balances(&registry, 10_000)?);
+    show_call(&registry)?;
 
     let again = registry.encode(events_type, &block)?;
     println!(
