@@ -23,7 +23,11 @@ pub struct Holding {
     pub taken: u64,
 }
 
-/// A decoder of the type, within these limits.
+/// Creates a decoder of the type, within these limits.
+///
+/// # Errors
+///
+/// Those of [`Decoder::new`].
 pub fn open<'r, A: Allocator + Clone>(
     memory: A,
     checked: &'r Checked,
@@ -36,7 +40,11 @@ pub fn open<'r, A: Allocator + Clone>(
     }
 }
 
-/// Feeds the piece.
+/// Feeds the piece, and returns how far the value is.
+///
+/// # Errors
+///
+/// Those of [`Decoder::feed`].
 pub fn feed<A: Allocator>(
     decoder: &mut Decoder<'_, A>,
     piece: &[u8],
@@ -44,7 +52,11 @@ pub fn feed<A: Allocator>(
     decoder.feed(piece)
 }
 
-/// The end of the decoder.
+/// Ends the decoder, and returns the value.
+///
+/// # Errors
+///
+/// Those of [`Decoder::finish`].
 pub fn finish<'r, A: Allocator>(decoder: Decoder<'r, A>) -> Result<Value<'r, A>, DecodeFault> {
     decoder.finish()
 }
@@ -68,7 +80,11 @@ pub fn opening_fault<A: Allocator + Clone>(
     Decoder::new(memory, checked, TypeId(ty), limits).err()
 }
 
-/// The value of the type that all bytes of the source are.
+/// Returns the value of the type that all bytes of the source spell.
+///
+/// # Errors
+///
+/// Those of `decode_all`.
 pub fn all_of<'r, A: Allocator + Clone, R: Read>(
     memory: A,
     checked: &'r Checked,
@@ -79,7 +95,11 @@ pub fn all_of<'r, A: Allocator + Clone, R: Read>(
     decode_all(memory, checked, TypeId(ty), limits, source)
 }
 
-/// The value of the type on the front of the pieces, and how many bytes it has.
+/// Returns the value of the type that the pieces begin with, and its number of bytes.
+///
+/// # Errors
+///
+/// Those of `decode_pieces`.
 pub fn front_of<'r, A: Allocator + Clone>(
     memory: A,
     checked: &'r Checked,
@@ -90,18 +110,30 @@ pub fn front_of<'r, A: Allocator + Clone>(
     decode_pieces(memory, checked, TypeId(ty), limits, pieces)
 }
 
-/// The value as JSON.
+/// Returns the JSON of a value.
+///
+/// # Errors
+///
+/// `AllocError` if an allocation fails.
 pub fn shown<A: Allocator>(alloc: Global, value: &Value<'_, A>) -> Result<String, AllocError> {
     json_text(alloc, alloc, value)
 }
 
-/// The value as JSON, by its tree.
+/// Returns the JSON of a value, by its tree.
+///
+/// # Errors
+///
+/// `AllocError` if an allocation fails.
 pub fn shown_tree<A: Allocator>(alloc: Global, value: &Value<'_, A>) -> Result<String, AllocError> {
     let tree = to_json(alloc, value)?;
     tree.to_string(alloc)
 }
 
-/// The value as JSON, as it is printed.
+/// Returns the JSON of a value, as it is printed.
+///
+/// # Errors
+///
+/// If a write fails.
 pub fn printed<A: Allocator>(alloc: Global, value: &Value<'_, A>) -> Result<Vec<u8>, Fail> {
     let mut sink = Sink::new(Vec::new(alloc));
     match print(alloc, value, &mut sink) {

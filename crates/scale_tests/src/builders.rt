@@ -8,7 +8,11 @@ use std::test::Fail;
 use value_core::{Builder, Value};
 use widths_core::Checked;
 
-/// A builder of a value of this type, down to this depth.
+/// Creates a builder of a value of this type, with this depth limit.
+///
+/// # Errors
+///
+/// If the builder rejects the type or the limit.
 pub fn begun<'r, A: Allocator + Clone>(
     alloc: A,
     checked: &'r Checked,
@@ -21,7 +25,11 @@ pub fn begun<'r, A: Allocator + Clone>(
     }
 }
 
-/// Makes these calls, none of which is refused.
+/// Makes these calls, none of which is rejected.
+///
+/// # Errors
+///
+/// The first call that is rejected.
 pub fn add_all<A: Allocator>(builder: &mut Builder<'_, A>, calls: &[Call<'_>]) -> Result<(), Fail> {
     'calls: for call in calls {
         add(builder, *call)?;
@@ -29,7 +37,11 @@ pub fn add_all<A: Allocator>(builder: &mut Builder<'_, A>, calls: &[Call<'_>]) -
     Ok(())
 }
 
-/// The value of a builder to which nothing is missing.
+/// Returns the value of a builder that lacks no node.
+///
+/// # Errors
+///
+/// If a node is missing.
 pub fn finished<A: Allocator>(builder: Builder<'_, A>) -> Result<Value<'_, A>, Fail> {
     match builder.finish() {
         Ok(value) => Ok(value),
@@ -37,7 +49,11 @@ pub fn finished<A: Allocator>(builder: Builder<'_, A>) -> Result<Value<'_, A>, F
     }
 }
 
-/// The value of this type that these calls build, down to this depth.
+/// Returns the value of this type that these calls build, with this depth limit.
+///
+/// # Errors
+///
+/// The first call that is rejected, or a node that is missing.
 pub fn built<'r>(
     alloc: Global,
     checked: &'r Checked,
@@ -55,7 +71,11 @@ pub fn counts<A: Allocator>(value: &Value<'_, A>) -> (u64, u64) {
     (value.node_count(), value.text_bytes())
 }
 
-/// The value is written as these bytes.
+/// Checks that the value is written as these bytes.
+///
+/// # Errors
+///
+/// If a write fails.
 pub fn check_written<A: Allocator>(
     alloc: Global,
     value: &Value<'_, A>,

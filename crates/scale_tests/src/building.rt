@@ -40,7 +40,11 @@ pub struct Standing {
     pub depth: u16,
 }
 
-/// The registry of these bytes, checked.
+/// Returns the checked registry of these bytes.
+///
+/// # Errors
+///
+/// If they hold no registry, or a type refers to one that is not there.
 pub fn checked(alloc: Global, bytes: &[u8]) -> Result<Checked, Fail> {
     let (registry, _) = read_registry(alloc, bytes)?;
     match Checked::new(alloc, registry) {
@@ -50,6 +54,10 @@ pub fn checked(alloc: Global, bytes: &[u8]) -> Result<Checked, Fail> {
 }
 
 /// Makes the call.
+///
+/// # Errors
+///
+/// What the builder rejects it for.
 pub fn add<A: Allocator>(builder: &mut Builder<'_, A>, call: Call<'_>) -> Result<(), BuildFault> {
     match call {
         Call::Empty => builder.empty(),
@@ -84,7 +92,11 @@ pub fn what_stands<A: Allocator>(builder: &Builder<'_, A>) -> Standing {
     }
 }
 
-/// The bytes of a value, as they are written.
+/// Returns the bytes of a value, as they are written.
+///
+/// # Errors
+///
+/// If a write fails.
 pub fn written<A: Allocator>(alloc: Global, value: &Value<'_, A>) -> Result<Vec<u8>, Fail> {
     let mut sink = Sink::new(Vec::new(alloc));
     match encode(value, &mut sink) {

@@ -23,6 +23,7 @@ pub struct PacedReader<'a> {
 }
 
 impl<'a> PacedReader<'a> {
+    /// Creates a reader of these bytes, at most `step` at once, which then does this.
     pub fn new(bytes: &'a [u8], step: usize, then: Then) -> PacedReader<'a> {
         PacedReader { bytes, step, then }
     }
@@ -53,6 +54,7 @@ pub struct PacedWriter {
 }
 
 impl PacedWriter {
+    /// Creates a writer with room for `room` bytes, at most `step` at once, which then does this.
     pub fn new(alloc: Global, room: usize, step: usize, then: Then) -> PacedWriter {
         PacedWriter {
             taken: Vec::new(alloc),
@@ -92,6 +94,7 @@ pub struct LetterReader {
 }
 
 impl LetterReader {
+    /// Creates a reader of these bytes and then of this many letters.
     pub fn new(head: &'static [u8], letters: usize) -> LetterReader {
         LetterReader { head, letters }
     }

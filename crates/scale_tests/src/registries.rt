@@ -103,6 +103,10 @@ pub const NESTED: &[u8] =
 
 /// The empty tuple, and 40 tuples, each of the tuple before it twice: the last takes no bytes, and
 /// a value of it would have 2^40 parts if it was taken apart.
+///
+/// # Errors
+///
+/// `AllocError` if an allocation fails.
 pub fn nested_pairs(alloc: Global) -> Result<Vec<u8>, AllocError> {
     let mut bytes = Vec::from_slice(alloc, b"\xa4\x00\x00\x00\x04\x00\x00")?;
     'types: for before in 0..40u8 {

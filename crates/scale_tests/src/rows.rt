@@ -22,6 +22,7 @@ pub const AMPLE: Limits = Limits {
     bytes: 16_777_216,
 };
 
+/// The rows.
 pub const ROWS: [Row; 6] = [
     Row {
         name: "texts, runs and arms",

@@ -9,6 +9,10 @@ pub fn is_nothing(column: &str) -> bool {
 }
 
 /// Reads bytes in hexadecimal digits; a dash stands for none.
+///
+/// # Errors
+///
+/// If the column has other characters, or an allocation fails.
 pub fn bytes_of(alloc: Global, column: &str) -> Result<Vec<u8>, Wrong> {
     if is_nothing(column) {
         return Ok(Vec::new(alloc));
@@ -20,16 +24,28 @@ pub fn bytes_of(alloc: Global, column: &str) -> Result<Vec<u8>, Wrong> {
 }
 
 /// Reads a decimal number.
+///
+/// # Errors
+///
+/// If the column is no number below 2^64.
 pub fn number_of(column: &str) -> Result<u64, Wrong> {
     column.parse::<u64>().ok().ok_or(Wrong::Column("a number"))
 }
 
 /// Reads the position of a type.
+///
+/// # Errors
+///
+/// If the column is no number below 2^32.
 pub fn type_of(column: &str) -> Result<u32, Wrong> {
     column.parse::<u32>().ok().ok_or(Wrong::Column("a type"))
 }
 
 /// Reads a depth limit.
+///
+/// # Errors
+///
+/// If the column is no number below 2^16.
 pub fn depth_of(column: &str) -> Result<u16, Wrong> {
     column.parse::<u16>().ok().ok_or(Wrong::Column("a depth"))
 }

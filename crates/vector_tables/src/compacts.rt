@@ -7,6 +7,10 @@ use scale_core::{Target, compact_len, put_compact, read_compact, write_compact};
 use std::alloc::{AllocError, Global};
 
 /// Returns the target of a name.
+///
+/// # Errors
+///
+/// If no target has the name.
 pub fn target_of(name: &str) -> Result<Target, Wrong> {
     match name {
         "Unit" => Ok(Target::Unit),
@@ -59,6 +63,10 @@ fn check_spelling(alloc: Global, value: u128, bytes: &[u8]) -> Result<(), Wrong>
 
 /// Checks one row: the compact is read so, and an accepted one is put and written as the bytes that
 /// were taken. Returns in how many ways it was asked.
+///
+/// # Errors
+///
+/// The first answer that differs from the row, or a column that can't be read.
 pub fn check_row(alloc: Global, columns: &[&str]) -> Result<u64, Wrong> {
     let [_, target, bytes, answer] = columns else {
         return Err(Wrong::Column("one of four"));

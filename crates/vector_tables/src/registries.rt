@@ -125,6 +125,10 @@ fn check_checked(
 }
 
 /// Checks one row. Returns in how many ways it was asked.
+///
+/// # Errors
+///
+/// The first answer that differs from the row, or a column that can't be read.
 pub fn check_row(alloc: Global, columns: &[&str]) -> Result<u64, Wrong> {
     let [_, prefix, bytes, read, check, lines] = columns else {
         return Err(Wrong::Column("one of six"));
@@ -167,6 +171,10 @@ pub struct Registries<'a>(Vec<Named<'a>>);
 
 impl<'a> Registries<'a> {
     /// Reads the names of a table's rows.
+    ///
+    /// # Errors
+    ///
+    /// `AllocError` if an allocation fails.
     pub fn new(alloc: Global, text: &'a str) -> Result<Registries<'a>, AllocError> {
         let mut named = Vec::new(alloc);
         'lines: for line in text.split('\n') {
@@ -179,6 +187,10 @@ impl<'a> Registries<'a> {
     }
 
     /// Returns the bytes of the registry that the second column of a row names.
+    ///
+    /// # Errors
+    ///
+    /// If no row has the name, or its bytes can't be read.
     pub fn bytes_of(&self, alloc: Global, columns: &[&str]) -> Result<Vec<u8>, Wrong> {
         let name = columns.get(1).copied().unwrap_or("");
         'registries: for registry in &self.0 {
@@ -191,6 +203,10 @@ impl<'a> Registries<'a> {
 }
 
 /// Returns the checked registry of these bytes.
+///
+/// # Errors
+///
+/// If they hold no registry, or a type refers to one that is not there.
 pub fn checked(alloc: Global, bytes: &[u8]) -> Result<Checked, Wrong> {
     let Ok((registry, _)) = read_registry(alloc, bytes) else {
         return Err(Wrong::Call("read_registry"));

@@ -102,6 +102,10 @@ fn check_arms(
 }
 
 /// Checks one row. Returns in how many ways it was asked.
+///
+/// # Errors
+///
+/// The first answer that differs from the row, or a column that can't be read.
 pub fn check_row(
     alloc: Global,
     registries: &Registries<'_>,

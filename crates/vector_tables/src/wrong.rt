@@ -40,6 +40,10 @@ impl Display for Wrong {
 }
 
 /// Returns the error of an answer that differs.
+///
+/// # Errors
+///
+/// `AllocError` if an allocation fails.
 pub fn differing(alloc: Global, way: Way, wanted: &str, found: &str) -> Result<Wrong, AllocError> {
     Ok(Wrong::Answer {
         way,
@@ -49,6 +53,10 @@ pub fn differing(alloc: Global, way: Way, wanted: &str, found: &str) -> Result<W
 }
 
 /// Compares two texts.
+///
+/// # Errors
+///
+/// If they differ, or an allocation fails.
 pub fn check_text(alloc: Global, way: Way, wanted: &str, found: &str) -> Result<(), Wrong> {
     if wanted == found {
         Ok(())
@@ -58,6 +66,10 @@ pub fn check_text(alloc: Global, way: Way, wanted: &str, found: &str) -> Result<
 }
 
 /// Compares two answers, and prints them where they differ.
+///
+/// # Errors
+///
+/// If they differ, or an allocation fails.
 pub fn check_same<T: Debug + PartialEq + Drop>(
     alloc: Global,
     way: Way,
@@ -73,6 +85,10 @@ pub fn check_same<T: Debug + PartialEq + Drop>(
 }
 
 /// Compares two runs of bytes.
+///
+/// # Errors
+///
+/// If they differ, or an allocation fails.
 pub fn check_bytes(alloc: Global, way: Way, wanted: &[u8], found: &[u8]) -> Result<(), Wrong> {
     if wanted == found {
         return Ok(());
