@@ -119,8 +119,8 @@ fn each_read_that_fails_is_reported_unless_all_was_decided(rt: HostRuntime) -> R
     Ok(())
 }
 
-/// What a reader that gives these bytes in one read, and then fails, is refused with, and whether
-/// it failed.
+/// Returns the error of a reader that gives these bytes in one read and then fails, and whether it
+/// failed.
 fn refusal_before_failure(
     alloc: Global,
     registry: &[u8],
@@ -179,7 +179,7 @@ fn check_unread(
     Ok(())
 }
 
-/// A type that is none, and limits that are out of range: what a decoder is refused with.
+/// An unknown type, and limits that are out of range, with the errors that a decoder returns.
 const UNOPENED: [(u32, Limits, OpenFault); 4] = [
     (1, AMPLE, OpenFault::UnknownType),
     (
