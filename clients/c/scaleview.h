@@ -8,10 +8,14 @@
  *   anything else that it is given. No call keeps a pointer to bytes.
  * - A handle is null or was set by a call. A null handle, or one of the other kind, is answered by SCALEVIEW_NO_HANDLE. A
  *   copy of a closed or freed handle can't be recognised, and must not be used.
- * - scaleview_types, the calls that describe types, scaleview_decode, scaleview_decode_nodes and scaleview_encode_nodes only
- *   read a registry: any number of threads may make them on one registry at the same time. Every other call changes its
- *   handles, and the count of sessions that a registry keeps without a lock: it must be the only one on this registry and its
- *   sessions while it runs.
+ * - A handle may be used on any thread. scaleview_types, scaleview_type_line, scaleview_type, scaleview_part, scaleview_arm,
+ *   scaleview_arm_field, scaleview_path, scaleview_find, scaleview_decode, scaleview_decode_nodes and scaleview_encode_nodes
+ *   only read a registry: any number of threads may make them on one registry at the same time.
+ * - A session is used by one call at a time. scaleview_feed, scaleview_taken, scaleview_nodes, scaleview_text_bytes,
+ *   scaleview_finish and scaleview_finish_nodes change that session alone, so other calls on its registry and on other
+ *   sessions may run at the same time.
+ * - scaleview_start and scaleview_free also change the count of sessions that a registry keeps without a lock: of these two,
+ *   one call at a time may run on a registry and its sessions. No other call on them may run during scaleview_close.
  *
  * Places and lengths are in bytes.
  *

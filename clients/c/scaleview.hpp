@@ -1,8 +1,8 @@
 /* The calls of scaleview.h for C++17: handles that close themselves, errors that are thrown, nodes in vectors.
  *
  * scaleview.h has what the calls do, and its rules of threads and of the stack hold here too: const members of a registry only
- * read it, and any number of threads may call them at the same time. Every other member, of a session too, and the end of
- * either, must be the only call on the registry and its sessions while it runs. */
+ * read it, and any number of threads may call them at the same time. A session is used by one call at a time. One session of a
+ * registry at a time is started or ends, and nothing else runs on them while the registry ends. */
 #ifndef SCALEVIEW_HPP
 #define SCALEVIEW_HPP
 #include "scaleview.h"

@@ -1,5 +1,5 @@
-/* Four threads decode and encode a value on one registry at the same time: threads REGISTRY ID VALUE TIMES. Each result is
- * compared with one that was made before the threads began. */
+/* Four threads decode and encode a value on one registry at the same time, each also by a session of its own: threads REGISTRY
+ * ID VALUE TIMES. Each result is compared with one that was made before the threads began. */
 #define _POSIX_C_SOURCE 200809L
 #include "scaleview.h"
 #include <pthread.h>
@@ -15,12 +15,14 @@ static scaleview_registry registry;
 static uint32_t type;
 static long times;
 static pthread_barrier_t begun;
+/* Held while a session is started or freed. */
+static pthread_mutex_t counting = PTHREAD_MUTEX_INITIALIZER;
 
 /* What is made of the value. */
 struct made {
-    uint8_t text[TEXT_ROOM], pool[TEXT_ROOM], bytes[TEXT_ROOM];
-    scaleview_node nodes[NODE_ROOM];
-    scaleview_answer of_text, of_nodes, of_bytes;
+    uint8_t text[TEXT_ROOM], pool[TEXT_ROOM], bytes[TEXT_ROOM], session_pool[TEXT_ROOM];
+    scaleview_node nodes[NODE_ROOM], session_nodes[NODE_ROOM];
+    scaleview_answer of_text, of_nodes, of_bytes, of_session;
 };
 
 static struct made first, others[THREADS];
@@ -36,6 +38,28 @@ static size_t read_file(const char *path, uint8_t *to) {
     return length;
 }
 
+/* Whether a session that is fed in pieces of three bytes gives the nodes that one call gave. */
+static bool feed(struct made *made) {
+    scaleview_session session = {NULL};
+    scaleview_answer answer;
+    pthread_mutex_lock(&counting);
+    uint32_t code = scaleview_start(registry, type, 64, 1 << 24, 0, &session, &answer);
+    pthread_mutex_unlock(&counting);
+    if (code != SCALEVIEW_OK) return false;
+    for (size_t at = 0; at < value_length; at += 3)
+        scaleview_feed(&session, value + at, value_length - at < 3 ? value_length - at : 3, &answer);
+    scaleview_taken(&session, &answer);
+    bool is_so = answer.length == value_length;
+    scaleview_finish_nodes(&session, made->session_nodes, NODE_ROOM, made->session_pool, TEXT_ROOM, &made->of_session);
+    pthread_mutex_lock(&counting);
+    is_so = scaleview_free(&session) == SCALEVIEW_OK && is_so;
+    pthread_mutex_unlock(&counting);
+    return is_so && made->of_session.code == SCALEVIEW_OK && made->of_session.length == made->of_nodes.length &&
+           made->of_session.at == made->of_nodes.at &&
+           !memcmp(made->session_nodes, made->nodes, (size_t)made->of_nodes.length * sizeof *made->nodes) &&
+           !memcmp(made->session_pool, made->pool, (size_t)made->of_nodes.at);
+}
+
 /* Whether each call succeeds, and the bytes of the value come back. */
 static bool make(struct made *made) {
     scaleview_decode(registry, type, 64, 1 << 24, 0, value, value_length, made->text, TEXT_ROOM, &made->of_text);
@@ -44,7 +68,7 @@ static bool make(struct made *made) {
     if (made->of_text.code != SCALEVIEW_OK || made->of_nodes.code != SCALEVIEW_OK) return false;
     scaleview_encode_nodes(registry, type, 64, 0, made->nodes, (size_t)made->of_nodes.length, made->pool,
                            (size_t)made->of_nodes.at, made->bytes, TEXT_ROOM, &made->of_bytes);
-    return made->of_bytes.code == SCALEVIEW_OK && made->of_bytes.length == value_length &&
+    return feed(made) && made->of_bytes.code == SCALEVIEW_OK && made->of_bytes.length == value_length &&
            !memcmp(made->bytes, value, value_length);
 }
 

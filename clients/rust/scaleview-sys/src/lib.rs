@@ -11,8 +11,10 @@
 //! - A handle is null or was set by a call. A copy of a closed or freed handle must not be used.
 //! - [`scaleview_types`], the calls that describe types, [`scaleview_decode`],
 //!   [`scaleview_decode_nodes`] and [`scaleview_encode_nodes`] only read a registry: any number of
-//!   threads may make them on one registry at the same time. Every other call must be the only one
-//!   on its registry and the sessions of that registry while it runs.
+//!   threads may make them on one registry at the same time.
+//! - A session is used by one call at a time. Of [`scaleview_start`] and [`scaleview_free`], one
+//!   call at a time may run on a registry and its sessions, and no other call on them during
+//!   [`scaleview_close`].
 //! - [`scaleview_decode`] and [`scaleview_finish`] need a thread of 128 KiB for values of depth 64,
 //!   and one of 1 MiB for depth 1024. No other call needs more than 16 KiB.
 

@@ -18,13 +18,11 @@ use std::sync::{Arc, OnceLock, PoisonError, RwLock};
 /// The library's handle of an open registry.
 struct Raw(Handle);
 
-// SAFETY: the header ties no handle to a thread; it wants calls kept apart. "scaleview_types, the
-// calls that describe types, scaleview_decode, scaleview_decode_nodes and scaleview_encode_nodes
-// only read a registry: any number of threads may make them on one registry at the same time." They
-// are made in `Registry::reading`, which shares the lock. "Every other call changes its handles,
-// and the count of sessions that a registry keeps without a lock: it must be the only one on this
-// registry and its sessions while it runs." They are made in `Registry::changing`, which has the
-// lock alone, those on a session too; or in `drop`, where nothing else has the registry.
+// SAFETY: "A handle may be used on any thread", says the header, and wants some calls kept apart.
+// Those that "only read a registry: any number of threads may make them on one registry at the same
+// time" are made in `Registry::reading`, which shares the lock. All others, those on a session too,
+// are made in `Registry::changing`, which has the lock alone, more than the header wants; or in
+// `drop`, where nothing else has the registry.
 unsafe impl Send for Raw {}
 // SAFETY: as above.
 unsafe impl Sync for Raw {}
@@ -41,8 +39,7 @@ struct Slot {
 /// A registry of types that is open. It is freed when it is dropped.
 ///
 /// It may be shared by threads. Calls that only read it run at the same time: decoding, encoding
-/// and what is asked of types. A call on a session has the registry alone while it runs, since the
-/// library wants that.
+/// and what is asked of types. A call on a session has the registry alone while it runs.
 ///
 /// ```
 /// # use scaleview::{Error, Registry};

@@ -26,10 +26,10 @@ pub enum Progress {
 /// The library's handle of a session. Every call is given its place, those that only report too.
 struct Raw(UnsafeCell<Handle>);
 
-// SAFETY: the header ties no handle to a thread. "Every other call changes its handles, and the
-// count of sessions that a registry keeps without a lock: it must be the only one on this registry
-// and its sessions while it runs." All calls on a session are such, and are made in
-// `Registry::changing`, which lets no other call on the registry or its sessions run.
+// SAFETY: "A handle may be used on any thread", says the header, and "A session is used by one call
+// at a time", and of start and free "one call at a time may run on a registry and its sessions".
+// All calls on a session are made in `Registry::changing`, which lets no other call on the registry
+// or its sessions run.
 unsafe impl Send for Raw {}
 // SAFETY: as above. The cell is reached in `Registry::changing` alone.
 unsafe impl Sync for Raw {}
