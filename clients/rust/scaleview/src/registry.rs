@@ -13,16 +13,16 @@ use scaleview_sys::{
 };
 use std::fmt;
 use std::sync::atomic::{AtomicU8, Ordering};
-use std::sync::{Arc, OnceLock, PoisonError, RwLock};
+use std::sync::{Arc, Mutex, OnceLock, PoisonError};
 
 /// The library's handle of an open registry.
 struct Raw(Handle);
 
 // SAFETY: "A handle may be used on any thread", says the header, and wants some calls kept apart.
 // Those that "only read a registry: any number of threads may make them on one registry at the same
-// time" are made in `Registry::reading`, which shares the lock. All others, those on a session too,
-// are made in `Registry::changing`, which has the lock alone, more than the header wants; or in
-// `drop`, where nothing else has the registry.
+// time" are made in `Registry::reading`. Of start and free, "one call at a time may run on a
+// registry and its sessions": they are made in `Registry::counting`. "No other call on them may run
+// during scaleview_close", which is made in `drop`, where nothing else has the registry.
 unsafe impl Send for Raw {}
 // SAFETY: as above.
 unsafe impl Sync for Raw {}
@@ -39,7 +39,7 @@ struct Slot {
 /// A registry of types that is open. It is freed when it is dropped.
 ///
 /// It may be shared by threads. Calls that only read it run at the same time: decoding, encoding
-/// and what is asked of types. A call on a session has the registry alone while it runs.
+/// and what is asked of types. So do calls on different sessions.
 ///
 /// ```
 /// # use scaleview::{Error, Registry};
@@ -64,7 +64,9 @@ struct Slot {
 /// drop(session);
 /// ```
 pub struct Registry {
-    raw: RwLock<Raw>,
+    raw: Raw,
+    /// Held while a session is started or freed.
+    count: Mutex<()>,
     slots: Vec<Slot>,
     len: u32,
     end: u64,
@@ -100,10 +102,10 @@ impl Registry {
         if code != sys::SCALEVIEW_OK {
             return Err(Error::of(answer));
         }
-        let raw = RwLock::new(Raw(handle));
         let len = answer.length as u32;
         let mut registry = Registry {
-            raw,
+            raw: Raw(handle),
+            count: Mutex::new(()),
             slots: Vec::new(),
             len,
             end: answer.at,
@@ -141,17 +143,16 @@ impl Registry {
         Registry::opened(bytes, true)
     }
 
-    /// Makes a call that only reads the registry; others of this kind may run at the same time.
+    /// Makes a call that only reads the registry; others may run at the same time.
     pub(crate) fn reading<T>(&self, call: impl FnOnce(Handle) -> T) -> T {
-        let raw = self.raw.read().unwrap_or_else(PoisonError::into_inner);
-        call(raw.0)
+        call(self.raw.0)
     }
 
-    /// Makes a call that changes the registry or a session of it; no other call runs at the same
+    /// Makes a call that changes the count of sessions; no other of this kind runs at the same
     /// time.
-    pub(crate) fn changing<T>(&self, call: impl FnOnce(Handle) -> T) -> T {
-        let raw = self.raw.write().unwrap_or_else(PoisonError::into_inner);
-        call(raw.0)
+    pub(crate) fn counting<T>(&self, call: impl FnOnce(Handle) -> T) -> T {
+        let _alone = self.count.lock().unwrap_or_else(PoisonError::into_inner);
+        call(self.raw.0)
     }
 
     /// Returns the version of the metadata, or `None` for a registry alone.
@@ -176,7 +177,7 @@ impl Registry {
 
     /// Returns the type at this position.
     pub fn get(&self, id: TypeId) -> Option<Type<'_>> {
-        // SAFETY: the registry is open, and the lock is shared.
+        // SAFETY: the registry is open.
         let shape = self
             .reading(|handle| unsafe { Reader::new(handle) }.shape(id))
             .ok()?;
@@ -206,7 +207,7 @@ impl Registry {
     pub fn find_from(&self, from: TypeId, path: &str) -> Option<TypeId> {
         let mut answer = Answer::default();
         let code = self.reading(|handle| {
-            // SAFETY: the registry is open and the lock is shared; the slice and the place are this
+            // SAFETY: the registry is open; the slice and the place are this
             // call's.
             unsafe { sys::scaleview_find(handle, from, path.as_ptr(), path.len(), &mut answer) }
         });
@@ -224,7 +225,7 @@ impl Registry {
     /// `UnknownType`, `Memory`.
     pub fn type_line(&self, id: TypeId) -> Result<String, Error> {
         let call = |out, room, answer: &mut Answer| {
-            // SAFETY: the registry is open and the lock is shared; the places are this call's.
+            // SAFETY: the registry is open; the places are this call's.
             self.reading(|handle| unsafe {
                 sys::scaleview_type_line(handle, id, out, room, answer)
             })
@@ -240,7 +241,7 @@ impl Registry {
             .get(id as usize)
             .ok_or(Error::UnknownType { id })?;
         if slot.details.get().is_none() {
-            // SAFETY: the registry is open, and the lock is shared.
+            // SAFETY: the registry is open.
             let details = self.reading(|handle| unsafe { Reader::new(handle) }.details(id))?;
             let mut one = buffer::reserved(1)?;
             one.push(details);
@@ -276,7 +277,7 @@ impl Registry {
     /// Returns the primitive that the type is or wraps, as a compact does.
     pub(crate) fn target(&self, id: TypeId) -> Option<Primitive> {
         self.reading(|handle| {
-            // SAFETY: the registry is open, and the lock is shared.
+            // SAFETY: the registry is open.
             let reader = unsafe { Reader::new(handle) };
             let mut at = id;
             // Types may wrap one another in a circle.
@@ -329,7 +330,7 @@ impl Registry {
             memory,
         } = limits;
         let call = |nodes, node_room, pool, pool_room, answer: &mut Answer| {
-            // SAFETY: the registry is open and the lock is shared; the slice and the places are
+            // SAFETY: the registry is open; the slice and the places are
             // this call's.
             self.reading(|handle| unsafe {
                 sys::scaleview_decode_nodes(
@@ -386,7 +387,7 @@ impl Registry {
             memory,
         } = limits;
         let call = |out, room, answer: &mut Answer| {
-            // SAFETY: the registry is open and the lock is shared; the slice and the places are
+            // SAFETY: the registry is open; the slice and the places are
             // this call's.
             self.reading(|handle| unsafe {
                 sys::scaleview_decode(
@@ -456,7 +457,7 @@ impl Registry {
     ) -> Result<Vec<u8>, Error> {
         let Limits { depth, memory, .. } = limits;
         let call = |out, room, answer: &mut Answer| {
-            // SAFETY: the registry is open and the lock is shared; the slices and the places are
+            // SAFETY: the registry is open; the slices and the places are
             // this call's.
             self.reading(|handle| unsafe {
                 sys::scaleview_encode_nodes(
@@ -522,9 +523,8 @@ impl fmt::Debug for Registry {
 
 impl Drop for Registry {
     fn drop(&mut self) {
-        let raw = self.raw.get_mut().unwrap_or_else(PoisonError::into_inner);
         // SAFETY: nothing else has the registry, and no call follows. A session that was forgotten
         // keeps it open.
-        unsafe { sys::scaleview_close(&mut raw.0) };
+        unsafe { sys::scaleview_close(&mut self.raw.0) };
     }
 }

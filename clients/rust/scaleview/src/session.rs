@@ -7,9 +7,8 @@ use crate::registry::{Registry, json_guess};
 use crate::types::TypeId;
 use crate::value::Value;
 use scaleview_sys::{self as sys, scaleview_answer as Answer, scaleview_session as Handle};
-use std::cell::UnsafeCell;
 use std::fmt;
-use std::sync::Arc;
+use std::sync::{Arc, Mutex, PoisonError};
 
 /// How far a value is.
 #[derive(Clone, Copy, Debug, PartialEq, Eq, Hash)]
@@ -24,15 +23,11 @@ pub enum Progress {
 }
 
 /// The library's handle of a session. Every call is given its place, those that only report too.
-struct Raw(UnsafeCell<Handle>);
+struct Raw(Handle);
 
-// SAFETY: "A handle may be used on any thread", says the header, and "A session is used by one call
-// at a time", and of start and free "one call at a time may run on a registry and its sessions".
-// All calls on a session are made in `Registry::changing`, which lets no other call on the registry
-// or its sessions run.
+// SAFETY: "A handle may be used on any thread", says the header. "A session is used by one call at a
+// time": its handle lies in a lock. It is started and freed in `Registry::counting`.
 unsafe impl Send for Raw {}
-// SAFETY: as above. The cell is reached in `Registry::changing` alone.
-unsafe impl Sync for Raw {}
 
 mod sealed {
     use crate::Registry;
@@ -48,10 +43,9 @@ use sealed::Keeps;
 
 /// A value in progress, as [`Session`] and [`OwnedSession`] are. It is freed when it is dropped.
 ///
-/// Sessions of one registry may be on several threads. Their calls wait for one another, and for
-/// calls on the registry. To feed values at the same time, open a registry for each thread.
+/// Sessions of one registry may be on several threads, and take pieces at the same time.
 pub struct AnySession<R: Keeps> {
-    raw: Raw,
+    raw: Mutex<Raw>,
     registry: R,
 }
 
@@ -105,25 +99,26 @@ impl<R: Keeps> AnySession<R> {
             },
             Answer::default(),
         );
-        let code = registry.changing(|open| {
-            // SAFETY: the registry is open, and this call has it alone; the places are this call's,
-            // and the handle is null.
+        let code = registry.counting(|open| {
+            // SAFETY: the registry is open, and no other session is started or freed; the places are
+            // this call's, and the handle is null.
             unsafe {
                 sys::scaleview_start(open, id, depth, bytes, memory, &mut handle, &mut answer)
             }
         });
         match code {
             sys::SCALEVIEW_OK => Ok(AnySession {
-                raw: Raw(UnsafeCell::new(handle)),
+                raw: Mutex::new(Raw(handle)),
                 registry,
             }),
             _ => Err(Error::of_type(id)(answer)),
         }
     }
 
-    /// Makes a call on the session, while no other runs on the registry or a session of it.
+    /// Makes a call on the session, while no other runs on it.
     fn changing<T>(&self, call: impl FnOnce(*mut Handle) -> T) -> T {
-        self.registry.changing(|_| call(self.raw.0.get()))
+        let mut raw = self.raw.lock().unwrap_or_else(PoisonError::into_inner);
+        call(&mut raw.0)
     }
 
     /// Returns the registry.
@@ -238,7 +233,8 @@ impl<R: Keeps> fmt::Debug for AnySession<R> {
 
 impl<R: Keeps> Drop for AnySession<R> {
     fn drop(&mut self) {
-        // SAFETY: as in `feed`, and no call follows.
-        self.changing(|session| unsafe { sys::scaleview_free(session) });
+        // SAFETY: as in `feed`; no other session is started or freed, and no call follows.
+        self.registry
+            .counting(|_| self.changing(|session| unsafe { sys::scaleview_free(session) }));
     }
 }
