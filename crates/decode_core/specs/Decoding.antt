@@ -33,8 +33,8 @@ use Rattle.decode_core.specs.declared.decoder.Progress.TheVariants as progress
 use Rattle.decode_core.specs.declared.fault.DecodeFault.{DecodeFault}
 use Rattle.machine_core.specs.declared.reason.DecodeReason.TheVariants as reason
 
--- what is decoded, how many bytes were taken, the value in progress, or the fault that ended it,
--- how many turns were taken, and how many calls fed it
+-- what is decoded, how many bytes were taken, the value in progress or the fault that ended it, how
+-- many turns were taken, and how many calls fed it
 pub record Decoding : Type 0 where
   pub job : Job
   pub taken : ℕ
@@ -42,7 +42,7 @@ pub record Decoding : Type 0 where
   pub turns : ℕ
   pub calls : ℕ
 
--- a value of which nothing came
+-- a value before any of its bytes were read
 abbrev pub first_running : List TypeInfo → ℕ → ℕ → Running
 first_running types root depth =
     record {
@@ -57,24 +57,24 @@ first_running types root depth =
       carry = [];
     }
 
--- the tree of the nodes, where they are a whole value
+-- the tree of the nodes, if they are a complete value
 abbrev pub built_tree : Built → Tree
 built_tree b = tree_of (map (λ e. e.head) b.entries)
 
--- it is a value of the job's type, of its registry, within its depth limit
+-- the value has the job's type, registry and depth limit
 pub record IsOf (j : Job) (s : Running) : Type 0 where
   pub types : s.built.walk.types ≡ j.registry
   pub ty : s.built.ty ≡ j.ty
   pub limit : s.built.walk.limit ≡ j.depth
 
--- its nodes are all that these bytes add before they end
+-- the value's nodes are all that these bytes add, and more bytes are needed
 pub record IsWaiting (j : Job) (b : List ℕ) (s : Running) : Type 0 where
   pub wants : WantsBytes s
   pub reads : reported_at j.registry (suc j.depth) j.ty b
       ≡ reported s.built.entries (Err ((truncated, wants.left), held_of s))
   pub sound : IsSound s
 
--- these bytes are those of the nodes and then those that are held, and more may follow
+-- these bytes are those of the nodes followed by the held bytes, and more may come
 pub record IsGoing (j : Job) (b : List ℕ) (s : Running) (n : ℕ) : Type 0 where
   pub same : IsOf j s
   pub own : List ℕ
@@ -85,7 +85,7 @@ pub record IsGoing (j : Job) (b : List ℕ) (s : Running) (n : ℕ) : Type 0 whe
   pub count : n ≡ length b
   pub fits : n ≤ j.bytes
 
--- a value stands on the front of these bytes, and it is whole
+-- a complete value stands at the front of these bytes
 pub record IsDone (j : Job) (b : List ℕ) (s : Running) (n : ℕ) : Type 0 where
   pub same : IsOf j s
   pub whole : (x : List ℕ) → remain j.registry (state_of s.built) x ≡ reported [] (Ok x)
@@ -95,10 +95,9 @@ pub record IsDone (j : Job) (b : List ℕ) (s : Running) (n : ℕ) : Type 0 wher
   pub outcome : IsOutcome j b (done (built_tree s.built)) n
   pub fits : n ≤ j.bytes
 
--- memory was wanted: the first n of these bytes, within the limit, are those of the nodes of a
--- value in progress and those that
--- it holds; and what comes next is refused by nothing, but a node that bytes spell was to be added,
--- or bytes of a text or a run of bytes were to be kept
+-- memory ran out: the first n of these bytes, within the limit, are those of the nodes of a value
+-- in progress and those that it holds. What comes next is not rejected: a node that bytes spell was
+-- to be added, or bytes of a text or a run of bytes were to be kept
 pub record RanOut (j : Job) (b : List ℕ) (n : ℕ) : Type 0 where
   pub s : Running
   pub same : IsOf j s
@@ -110,7 +109,7 @@ pub record RanOut (j : Job) (b : List ℕ) (n : ℕ) : Type 0 where
   pub wants : WantsMemory s rest
   pub sound : IsSound s
 
--- why it ended: memory was wanted and refused, or these bytes have this outcome
+-- why decoding ended: memory ran out, or these bytes have this outcome
 abbrev pub IsEnded : Job → List ℕ → DecodeFault → ℕ → Type 0
 IsEnded j b f n = ((f ≡ record { reason = reason.OutOfMemory; at = 0 }) × RanOut j b n)
     ⊎ (((f ≡ record { reason = reason.TooLong; at = j.bytes }) × IsOutcome j b too_long n)
@@ -132,10 +131,9 @@ AnswersPiece old new b (Ok (progress.Done used)) = (s : Running) × (new.run ≡
     × IsOutcome new.job b (done (built_tree s.built)) new.taken × (new.taken ≡ old.taken + used)
 AnswersPiece old new b (Err f) = (new.run ≡ Err f) × IsEnded new.job b f new.taken
 
--- what is held at More: the one begun tree that these bytes make, its nodes and no others, and the
--- bytes after its own, which
--- are too few for the node that is missing first; texts and runs of bytes have the bytes of the
--- tree's, and of an open one those that came past its length
+-- what is held after `More`: the nodes of the one begun tree that these bytes make, and the bytes
+-- after the tree's, which are too few for the next node. The bytes of texts and runs are those of
+-- the tree and those of an open run after its length
 pub record HoldsOf (j : Job) (b : List ℕ) (s : Running) : Type 0 where
   pub tree : Begun
   pub holds : Holds j.registry (suc j.depth) j.ty b tree (held_of s)
@@ -148,19 +146,19 @@ abbrev pub HoldsAt : Decoding → List ℕ → Result Progress DecodeFault → T
 HoldsAt d b (Ok progress.More) = (s : Running) × (d.run ≡ Ok s) × HoldsOf d.job b s
 HoldsAt d b _ = Unit {0}
 
--- how many turns the builder's loop has taken, those of a builder that is gone too
+-- how many turns the builder's loop has taken; `gone` is the count of a builder that was dropped
 abbrev pub closing_turns : Result Running DecodeFault → ℕ → ℕ
 closing_turns (Ok s) gone = s.built.turns
 closing_turns (Err f) gone = gone
 
--- of the decoder's own loop: each node was added in one turn, each call ended in one, and each
--- other turn took a byte
+-- the turns of the decoder's loop: one added each node, one ended each call, and each other turn
+-- took a byte
 abbrev pub LoopCounted : ℕ → Running → ℕ → ℕ → Type 0
 LoopCounted n s turns calls = (length s.built.entries + calls ≤ turns)
     × (turns ≤ n + length s.built.entries + calls)
 
--- of both loops, where the builder's closes a node in each turn; where a value is refused, its
--- nodes are gone
+-- the turns of both loops: each turn of the builder's loop closes a node; after a fault the nodes
+-- are gone, and only an upper bound is known
 abbrev pub RunCounted : Job → ℕ → Result Running DecodeFault → ℕ → ℕ → Type 0
 RunCounted j n (Ok s) turns calls = (length s.built.entries + s.built.turns + calls ≤ turns)
     × (turns ≤ n + length s.built.entries + s.built.turns + calls)
@@ -170,14 +168,14 @@ RunCounted j n (Err f) turns calls =
 abbrev pub IsCounted : Decoding → Type 0
 IsCounted d = RunCounted d.job d.taken d.run d.turns d.calls
 
--- some bytes have led to it, within a limit that a count can pass
+-- some bytes have led to the decoder, and its byte limit is at most 2^40
 pub record IsDecoding (d : Decoding) : Type 0 where
   pub limit : d.job.bytes ≤ 2 ^ 40
   pub bytes : List ℕ
   pub led : Led d bytes
   pub counted : IsCounted d
 
--- some bytes have led to a value in progress or whole
+-- some bytes have led to this value, in progress or complete
 pub record IsLedTo (s : Running) (limit taken : ℕ) : Type 0 where
   pub small : limit ≤ 2 ^ 40
   pub job : Job
@@ -185,7 +183,7 @@ pub record IsLedTo (s : Running) (limit taken : ℕ) : Type 0 where
   pub is_limit : job.bytes ≡ limit
   pub led : RunLed job bytes taken (Ok s)
 
--- what a piece made of it, by all bytes so far
+-- the result of a piece, by all bytes so far
 abbrev pub RunAnswers : Job → List ℕ → ℕ → Running → Fed → Type 0
 RunAnswers j b taken new (fed.More n) = IsGoing j b new n × IsOutcome j b more n × HoldsOf j b new
 RunAnswers j b taken new (fed.Done used) = IsDone j b new (taken + used)
@@ -198,42 +196,42 @@ FedCounts j new taken turns calls (fed.Done used) = LoopCounted (taken + used) n
 FedCounts j new taken turns calls (fed.Ended f n) =
     turns + new.built.turns ≤ n + 2 * node_bound n j.depth (widest j.registry) + calls
 
--- a piece of n bytes, whatever is answered to it, adds no more than them to the bytes taken
+-- a piece of n bytes adds at most n to the bytes taken, whatever the result is
 abbrev pub FedTakes : ℕ → ℕ → Fed → Type 0
 FedTakes taken n (fed.More m) = (taken ≤ m) × (m ≤ taken + n)
 FedTakes taken n (fed.Done used) = used ≤ n
 FedTakes taken n (fed.Ended f m) = (taken ≤ m) × (m ≤ taken + n)
 
--- turns on a piece led from this value in progress to where memory was wanted, with n bytes taken
--- in all
+-- turns on a piece led from this value in progress to an allocation failure, with n bytes taken in
+-- all
 abbrev pub AsksAt : Running → List ℕ → ℕ → ℕ → Type 0
 AsksAt s piece taken n = (k : ℕ) × (n ≡ taken + k) × RunsOut s piece k
 
--- where an allocation failure ended a value, the turns on the piece led to it
+-- if an allocation failure ended a value, the turns on the piece led to it
 abbrev pub FedAsks : Running → List ℕ → ℕ → Fed → Type 0
 FedAsks s piece taken (fed.Ended f n) = f.reason ≡ reason.OutOfMemory → AsksAt s piece taken n
 FedAsks s piece taken _ = Unit {0}
 
--- where an allocation failure is reported with n bytes taken, it had been reported before; or turns
--- on the part of the piece that is within the limit led to it from the value as it stood
+-- if an allocation failure is reported with n bytes taken, it was reported before, or the turns on
+-- the part of the piece within the limit led to it from the value so far
 abbrev pub AsksMemory : Decoding → List ℕ → ℕ → DecodeFault → Type 0
 AsksMemory d piece n f = f.reason ≡ reason.OutOfMemory → (d.run ≡ Err f)
     ⊎ ((s : Running) × (d.run ≡ Ok s) × AsksAt s (take (d.job.bytes - d.taken) piece) d.taken n)
 
--- nothing changed but how many turns and calls there were
+-- nothing changed except the numbers of turns and calls
 pub record IsKept (old new : Decoding) : Type 0 where
   pub job : new.job ≡ old.job
   pub taken : new.taken ≡ old.taken
   pub run : new.run ≡ old.run
 
--- where the value is reported to be whole it is there
+-- if the value is reported to be complete, it is there
 abbrev pub HasValue : Decoding → Result Progress DecodeFault → Type 0
 HasValue d (Ok (progress.Done used)) = (s : Running) × (d.run ≡ Ok s) × (is_complete s.built ≡ true)
 HasValue d _ = Unit {0}
 
 -- ---- a decoder is made, counted, and ended
 
--- a decoder of a type of a registry that has taken nothing
+-- a decoder of a type of a registry, before it has taken any bytes
 abbrev pub first_of_all : List TypeInfo → ℕ → Limits → Decoding
 first_of_all types root limits = record {
   job = record { registry = types; ty = root; depth = limits.depth; bytes = limits.bytes };
@@ -243,7 +241,7 @@ first_of_all types root limits = record {
   calls = 0;
 }
 
--- an id that is no position first, and then a limit that is out of its range
+-- the fault of opening a decoder: first an id that is not a position, and then a limit out of range
 abbrev pub opening_fault : List TypeInfo → ℕ → Limits → Option OpenFault
 opening_fault types root limits =
     if not (nat_lt root (length types)) then Some opening.UnknownType
@@ -262,7 +260,8 @@ node_count d = elim d.run [ Ok s ↦ length s.built.entries | Err f ↦ 0 ]
 abbrev pub text_bytes : Decoding → ℕ
 text_bytes d = elim d.run [ Ok s ↦ built_text_bytes s.built | Err f ↦ 0 ]
 
--- where the value is whole, its own nodes and bytes of texts and of runs are counted
+-- if the value is complete, the counts are those of its nodes and of the bytes of its texts and
+-- runs
 abbrev pub CountsValue : Decoding → Result Progress DecodeFault → Type 0
 CountsValue d (Ok (progress.Done used)) = (s : Running) × (d.run ≡ Ok s)
     × (node_count d ≡ nodes (finished s.built).tree)
@@ -286,26 +285,26 @@ pub record IsSmall (d : Decoding) : Type 0 where
   pub turns : d.turns ≤ d.taken + 2 * node_bound d.taken d.job.depth (widest d.job.registry)
       + d.calls
 
--- no turn goes uncounted that added a node which is held, closed one, or ended a call
+-- every turn is counted that added a held node, closed a node, or ended a call
 abbrev pub HasCounted : Decoding → Type 0
 HasCounted d = elim d.run [
   | Ok s ↦ length s.built.entries + s.built.turns + d.calls ≤ d.turns
   | Err f ↦ Unit {0}
 ]
 
--- and of a whole value still less
+-- a smaller bound on the nodes of a complete value
 abbrev pub IsSmallAtEnd : Decoding → Result Progress DecodeFault → Type 0
 IsSmallAtEnd d (Ok (progress.Done used)) =
     node_count d ≤ value_bound d.taken d.job.depth (widest d.job.registry)
 IsSmallAtEnd d _ = Unit {0}
 
--- a value that is handed out has few nodes and bytes of runs for its bytes
+-- the bytes of a returned value bound its nodes and the bytes of its texts and runs
 abbrev pub IsSmallValue : Job → List ℕ → Result Seen DecodeFault → Type 0
 IsSmallValue j b (Ok v) = (n : ℕ) × IsOutcome j b (done v.tree) n
     × (nodes v.tree ≤ value_bound n j.depth (widest j.registry)) × (tree_text_bytes v.tree ≤ n)
 IsSmallValue j b (Err f) = Unit {0}
 
--- the value that stands on all these bytes; or they are too few, or were refused
+-- the value at the front of these bytes; or they are too few, or decoding ended with a fault
 abbrev pub FinishesDecoder : Job → List ℕ → Result Seen DecodeFault → Type 0
 FinishesDecoder j b (Ok v) = (n : ℕ) × (v.types ≡ j.registry) × (v.ty ≡ j.ty)
     × IsOutcome j b (done v.tree) n

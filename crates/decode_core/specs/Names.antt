@@ -1,4 +1,4 @@
--- What the faults of a value are printed as.
+-- How the faults of a value are printed.
 use Rattle.std.specs.Prelude.{ℕ, List, ◌++◌, codes, decimal}
 use Rattle.decode_core.specs.declared.fault.DecodeFault.{DecodeFault}
 use Rattle.machine_core.specs.Reasons.{reason_name}

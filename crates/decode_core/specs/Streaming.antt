@@ -1,4 +1,4 @@
--- What is answered to all bytes of a reader, and to pieces that are joined.
+-- The results for all bytes of a reader, and for joined pieces.
 use Rattle.std.specs.Prelude.{◌≡◌, ℕ, zero, suc, ◌<◌, ◌≤◌, ◌⊎◌, Bool, true, false}
 use Rattle.std.specs.Prelude.{List, [], ◌++◌, length, take}
 use Rattle.std.specs.Prelude.{Result, Ok, Err, Option, Some, None, IfSome}
@@ -22,55 +22,55 @@ use Rattle.decode_core.specs.declared.pieces.PiecesFault.TheVariants as pieces
 abbrev pub job_of : List TypeInfo → ℕ → Limits → Job
 job_of types root limits = (first_of_all types root limits).job
 
--- the fault that forbids a decoder; or there is none, and an allocation failed
+-- the fault that prevents opening a decoder; or there is none, and an allocation failed
 abbrev pub Forbids : Option OpenFault → OpenFault → Type 0
 Forbids forbidden e = (forbidden ≡ Some e) ⊎ ((e ≡ opening.OutOfMemory) × (forbidden ≡ None))
 
--- a value of the job's type, of its registry
+-- a value of the job's type and registry
 abbrev pub IsOfJob : Job → Seen → Type 0
 IsOfJob j v = (v.types ≡ j.registry) × (v.ty ≡ j.ty)
 
--- a value has n of these bytes, and more follow
+-- a value takes the first n of these bytes, and more bytes follow
 abbrev pub Trails : Job → ℕ → List ℕ → Type 0
 Trails j n b = (v : Tree) × IsOutcome j b (done v) n × (n < length b)
 
--- these bytes leave open what the answer is: there are none, and a read comes before any answer; or
--- more are wanted; or they are a
--- value's, and one may follow them
+-- these bytes leave the result open: there are none, and a read comes before any result; or more
+-- are needed; or they are exactly one value, and a byte may follow
 abbrev pub LeavesOpen : Job → List ℕ → Type 0
 LeavesOpen j b = (length b ≡ 0)
     ⊎ (IsOutcome j b more (length b) ⊎ ((v : Tree) × IsOutcome j b (done v) (length b)))
 
--- what a read did to a reader: the reader and the part before, the count of bytes that it gave, or
--- none where it answered an error, and the part and the reader afterwards
+-- what a read does: the reader and the buffer before it; the number of bytes that it returned, or
+-- `None` if it failed; and the buffer and the reader after it
 abbrev pub ReadOf : Type 0 → Type 1
 ReadOf R = R → List ℕ → Option ℕ → List ℕ → R → Type 0
 
--- so many reads, none of which answered an error, gave these bytes and led from one state of the
--- reader to the other
+-- so many reads, none of which failed, returned these bytes and led from one state of the reader to
+-- the other
 abbrev pub Gives : {R : Type 0} → ReadOf R → R → ℕ → List ℕ → R → Type 0
 Gives reads old zero b new = (b ≡ []) × (new ≡ old)
 Gives {R} reads old (suc k) b new = (front : List ℕ) × (mid : R) × Gives reads old k front mid
     × (before : List ℕ) × (n : ℕ) × (part : List ℕ) × reads mid before (Some n) part new
     × (b ≡ front ++ take n part)
 
--- a read that answered an error led to this state of the reader
+-- a read that failed led to this state of the reader
 abbrev pub FailsAt : {R : Type 0} → ReadOf R → R → R → Type 0
 FailsAt reads old new = (before : List ℕ) × (part : List ℕ) × reads old before None part new
 
--- these bytes were read, and the next read answered an error
+-- these bytes were read, and the next read failed
 abbrev pub FailsAfter : {R : Type 0} → ReadOf R → R → R → List ℕ → Type 0
 FailsAfter {R} reads old new b = (mid : R) × (k : ℕ) × Gives reads old k b mid
     × FailsAt reads mid new
 
--- bytes after which a read failed are those that the reader has lost, and leave the answer open
+-- the bytes read before a failed read are those that the reader no longer has, and they leave the
+-- result open
 abbrev pub StopsOpen : Job → (List ℕ → Type 0) → Option (List ℕ) → Option (List ℕ) → Type 0
 StopsOpen j fails known left = (b : List ℕ) × fails b × Consumes known left b × LeavesOpen j b
 
--- the answer to all bytes of a reader: the one value that is encoded by exactly these bytes; the
--- fault that forbids a decoder; too few
--- bytes, or the fault of these bytes; or a value whose bytes end before they do. Where a read
--- failed, the bytes that were read before it, and no others, leave the answer open
+-- the result for all bytes of a reader: the one value that these bytes encode exactly; the fault
+-- that prevents opening a decoder; too few bytes, or the fault of these bytes; or a value that ends
+-- before they do. If a read failed, the bytes read before it leave the result open, and no others
+-- were taken
 abbrev pub Streams : Option OpenFault → Job → (List ℕ → Type 0) → List ℕ → Option (List ℕ) →
     Result Seen StreamFault → Type 0
 Streams forbidden j fails b left (Ok v) = (forbidden ≡ None) × IsOfJob j v
@@ -83,8 +83,8 @@ Streams forbidden j fails b left (Err (stream.TrailingBytes at)) = (forbidden �
 Streams forbidden j fails b left (Err stream.Device) = (forbidden ≡ None)
     × StopsOpen j fails (Some b) left
 
--- the value on the front of the joined pieces, how many bytes are its own, and that it is bounded
--- for them; or, as above, the fault
+-- the value at the front of the joined pieces, how many bytes it takes, and that these bound it;
+-- or, as above, the fault
 abbrev pub Joins : Option OpenFault → Job → List ℕ → Result (Seen × ℕ) PiecesFault → Type 0
 Joins forbidden j b (Ok x) = (forbidden ≡ None) × IsOfJob j x.0 × IsOutcome j b (done x.0.tree) x.1
     × (nodes x.0.tree ≤ value_bound x.1 j.depth (widest j.registry)) × (text_bytes x.0.tree ≤ x.1)
@@ -93,27 +93,26 @@ Joins forbidden j b (Err (pieces.Decode f)) = (forbidden ≡ None) × FinishesDe
 
 -- ---- on the way
 
--- these bytes have led to the decoder, and either there are none or the value goes on
+-- these bytes have led to the decoder, and either there are none or the value is incomplete
 pub record IsUnderWay (d : Decoding) (b : List ℕ) : Type 0 where
   pub led : Led d b
   pub count : d.taken ≡ length b
   pub fits : length b ≤ d.job.bytes
   pub goes_on : (length b ≡ 0) ⊎ IsOutcome d.job b more (length b)
 
--- a value on the front of these bytes has n of them
+-- a value at the front of these bytes takes n of them
 abbrev pub EndsAt : Job → List ℕ → ℕ → Type 0
 EndsAt j b n = (v : Tree) (m : ℕ) → IsOutcome j b (done v) m → m ≡ n
 
--- does a byte follow; where the read failed, none was read
+-- whether a byte follows; if the read failed, no byte was read
 abbrev pub Looks : Type 0 → Option (List ℕ) → Option (List ℕ) → Result Bool StreamFault → Type 0
 Looks fails known left (Ok true) = IfSome known (λ b. 0 < length b)
 Looks fails known left (Ok false) = IsAtEnd known
 Looks fails known left (Err stream.Device) = Keeps known left × fails
 Looks fails known left (Err _) = ⊥
 
--- what has led to the decoder are all bytes of a reader, of which its value leaves none; or more
--- follow its value; or they are refused;
--- or a read failed, and those that were read before it leave the answer open
+-- all bytes of a reader have led to the decoder, and its value leaves none; or more follow the
+-- value; or they are rejected; or a read failed, and the bytes read before it leave the result open
 abbrev pub FeedsAll : Decoding → (List ℕ → Type 0) → Option (List ℕ) → Option (List ℕ) →
     Result Bool StreamFault → Type 0
 FeedsAll d fails known left (Ok false) = (b : List ℕ) × Led d b × EndsAt d.job b (length b)
@@ -124,7 +123,7 @@ FeedsAll d fails known left (Err (stream.Decode f)) =
 FeedsAll d fails known left (Err stream.Device) = StopsOpen d.job fails known left
 FeedsAll d fails known left (Err _) = ⊥
 
--- the front of these bytes has led to the decoder, and its value is whole, or nothing follows
+-- the front of these bytes has led to the decoder, and its value is complete, or nothing follows
 pub record IsFed (d : Decoding) (b : List ℕ) : Type 0 where
   pub front : List ℕ
   pub rest : List ℕ

@@ -4,7 +4,7 @@ use Rattle.decode_core.specs.declared.decoder.Decoder.TheInside.{Inside}
 use Rattle.machine_core.specs.Outcome.{Job}
 use Rattle.decode_core.specs.Decoding.{Decoding, closing_turns}
 
--- what is decoded: a value of which type, within which limits
+-- what is decoded: a value of this type, within these limits
 abbrev pub job_within : {A : Type 0} → Inside A → Job
 job_within d = record {
   registry = d.checked.now.types;

@@ -10,7 +10,7 @@ FitsRoom room g next = (begun_levels g ≤ room)
     × ((left u : ℕ) → next ≡ Some (left, u) → (is_whole_tree g ≡ false)
     × (left + begun_depth g ≡ room)) × (next ≡ None → is_whole_tree g ≡ true)
 
--- where what is missing first is reported twice and is the same, the room for it is the same
+-- if what is missing first is given twice, the levels left for it are the same
 room_is : (p q : ℕ × ℕ) → Some p ≡ Some q → p.0 ≡ q.0
 room_is p q e = ap (λ (x : Option (ℕ × ℕ)). elim x [ Some n ↦ n.0 | None ↦ 0 ]) e
 

@@ -1,4 +1,4 @@
--- A value that is not whole yet, and the bytes that its nodes came from.
+-- A value that is not complete yet, and the bytes of its nodes.
 use Rattle.std.specs.Prelude.{◌≡◌, ℕ, zero, suc, ◌+◌, ◌≤◌, max, ◌⊎◌, List, [], ◌∷◌, ◌++◌, Option}
 use Rattle.std.specs.Prelude.{Some, None, Bool, true, false}
 use Rattle.scale_core.specs.Compact.{IsCompact}
@@ -20,7 +20,7 @@ use Rattle.grammar_core.specs.Preorder.{Head, preorder, all_preorder}
 
 -- ---- an open node
 
--- a branch opens in a layout: c are its own bytes, and p are its parts
+-- a branch opens in a layout: c is the bytes of the branch itself, and p its parts
 abbrev pub BranchOpens : Layout → Branch → List ℕ → Part → Type 0
 BranchOpens f tree.fields c p = (ts : List ℕ) × (f ≡ layout.fields ts) × (c ≡ []) × (p ≡ each ts)
 BranchOpens f (tree.arm q) c p = (arms : List Arm) × (i : ℕ) × (a : Arm) × (f ≡ layout.arms arms)
@@ -28,22 +28,22 @@ BranchOpens f (tree.arm q) c p = (arms : List Arm) × (i : ℕ) × (a : Arm) × 
 BranchOpens f tree.list c p = (n u : ℕ) × (((f ≡ layout.array n u) × (c ≡ []))
     ⊎ ((f ≡ layout.sequence u) × IsCompact target.U32 n c)) × (p ≡ times n u)
 
--- values of the first of these parts, one after the other, their bytes, and the parts that are left
+-- values of the first of these parts in order, their bytes, and the parts that are left
 abbrev pub FirstValues : List TypeInfo → Part → Trees → List ℕ → Part → Type 0
 FirstValues r p none b left = (b ≡ []) × (left ≡ p)
 FirstValues r p (and v vs) b left = (t : ℕ) × (b1 b2 : List ℕ) × (first_of p ≡ Some t)
     × (b ≡ b1 ++ b2) × Val r t v b1 × FirstValues r (left_after p) vs b2 left
 
--- a node of type t that is to have n children and has the first ones, the bytes of all that, and
--- the parts that are left
+-- a node of type t that will have n children and has the first ones, the bytes of the node and of
+-- these children, and the parts that are left
 abbrev pub IsOpenAs : List TypeInfo → Branch → ℕ → ℕ → Trees → List ℕ → Part → Type 0
 IsOpenAs r k t n vs b left = (p : Part) × (c own : List ℕ) × BranchOpens (layout r t) k c p
     × (n ≡ how_many_left p) × (b ≡ c ++ own) × FirstValues r p vs own left
 
 -- ---- a begun tree
 
--- nothing; a whole value; or a node that is open: how many children it is to have, those that are
--- whole, and the one that is begun
+-- nothing; a complete value; or an open node: how many children it will have, those that are
+-- complete, and the one that is begun
 pub data Begun : Type 0 where
   nothing : Begun
   whole : Tree → Begun
@@ -54,9 +54,9 @@ abbrev pub IsPart : Begun → Type 0
 IsPart (whole v) = ⊥
 IsPart _ = Unit {0}
 
--- g is a begun tree of type t with room for so many levels, b is what its nodes are in bytes, in
--- preorder, and next is the type that is missing first, with the levels that there is room for at
--- it
+-- g is a begun tree of type t with at most `room` levels, and b is the bytes of its nodes in
+-- preorder; `next` is the type that is missing first and the levels left for it, or `None` if the
+-- tree is complete
 unfoldable pub Grows : List TypeInfo → ℕ → ℕ → Begun → List ℕ → Option (ℕ × ℕ) → Type 0
 Grows r room t nothing b next = (b ≡ []) × (next ≡ Some (room, t))
 Grows r room t (whole v) b next = Val r t v b × (levels v ≤ room) × (next ≡ None)
@@ -65,7 +65,7 @@ Grows r (suc room) t (open_branch k n vs g) b next = (left : Part) × (u : ℕ) 
     × (is_finite r t ≡ true) × IsOpenAs r k t n vs b1 left × (most_levels vs ≤ room)
     × (first_of left ≡ Some u) × (b ≡ b1 ++ b2) × IsPart g × Grows r room u g b2 next
 
--- the nodes that are there, in preorder: one that is open with how many children it is to have
+-- the nodes so far, in preorder; an open one has the number of children that it will have
 abbrev pub begun_preorder : Begun → List Head
 begun_preorder nothing = []
 begun_preorder (whole v) = preorder v
@@ -87,7 +87,7 @@ begun_levels nothing = 0
 begun_levels (whole v) = levels v
 begun_levels (open_branch k n vs g) = 1 + max (most_levels vs) (begun_levels g)
 
--- how deep the missing node is, and 0 where none is
+-- the depth of the missing node, or 0 if none is missing
 abbrev pub begun_depth : Begun → ℕ
 begun_depth (open_branch k n vs g) = 1 + begun_depth g
 begun_depth _ = 0

@@ -11,7 +11,7 @@ use Rattle.grammar_core.specs.Tree.{how_many, nodes}
 use Rattle.grammar_core.specs.Parts.{Part, each, times, first_of, left_after}
 use Rattle.grammar_core.specs.Preorder.{Head, head_of}
 
--- a node in preorder, its type, and how many nodes its subtree has
+-- a node in preorder: its type, the node itself, and how many nodes its subtree has
 pub record Cell : Type 0 where
   pub ty : ℕ
   pub head : Head
@@ -38,7 +38,7 @@ part_of f fields n = fields_part f
 part_of f (arm q) n = arm_part f q
 part_of f list n = list_part f n
 
--- the type of the next child, which is there
+-- the type of the next child, or 0 if none is left
 abbrev pub child_type : Part → ℕ
 child_type p = elim (first_of p) [ Some t ↦ t | None ↦ 0 ]
 
@@ -52,7 +52,7 @@ abbrev mutual
   cells r t (branch k vs) =
       cell_of t (branch k vs) ∷ all_cells r (part_of (layout r t) k (how_many vs)) vs
 
-  -- the cells of children whose types are these
+  -- the cells of children of these types
   pub all_cells : List TypeInfo → Part → Trees → List Cell
   all_cells r p none = []
   all_cells r p (and v vs) = cells r (child_type p) v ++ all_cells r (left_after p) vs

@@ -1,5 +1,5 @@
 -- Which form a value of a type has, or why there is none: the first rule that applies (SCALE codec,
--- "Types"; own order of the reasons).
+-- "Types"; the order of the reasons is this project's).
 use Rattle.std.specs.Prelude.{ℕ, List, Bool, Option, Some, None, if◌then◌else◌}
 use Rattle.scale_core.specs.declared.compact.Target.{Target}
 use Rattle.registry_core.specs.declared.definition.TypeDef.{TypeDef}
@@ -16,7 +16,8 @@ use Rattle.grammar_core.specs.declared.form.StopReason.TheVariants as stop
 use Rattle.grammar_core.specs.declared.form.Next.{Next}
 use Rattle.grammar_core.specs.declared.form.Next.TheVariants as next
 
--- a sequence of elements that take no bytes is its length alone, and one of u8 a run of bytes
+-- a sequence of elements that take no bytes is only its length, and a sequence of u8 is a run of
+-- bytes
 abbrev pub sequence_form : Bool → Bool → Next
 sequence_form empty byte =
     next.Wants (if empty then form.Count else (if byte then form.Bytes else form.Sequence))
@@ -29,7 +30,7 @@ abbrev pub compact_form : Option Target → Next
 compact_form (Some m) = next.Wants (form.Compact m)
 compact_form None = next.Stop stop.BadCompact
 
--- the form of a type that takes bytes, by its definition; a type that is not known has no value
+-- the form of a type that takes bytes, by its definition; an unknown type has no value
 abbrev pub form_of_shape : List TypeInfo → Option TypeDef → Next
 form_of_shape r None = next.Stop stop.NoFiniteValue
 form_of_shape r (Some (Def.Composite fs)) = next.Wants form.Fields
@@ -44,19 +45,19 @@ form_of_shape r (Some (Def.BitSequence store order)) = next.Stop stop.BitSequenc
 abbrev pub sized_form : List TypeInfo → ℕ → Next
 sized_form r t = form_of_shape r (shape r t)
 
--- the form of a finite type: a type that takes no bytes first, and else its definition
+-- the form of a finite type: empty if it takes no bytes, and otherwise by its definition
 abbrev pub form_of : List TypeInfo → ℕ → Next
 form_of r t = if is_empty r t then next.Wants form.Empty else sized_form r t
 
--- what comes where a value of type t is next, within the depth limit
+-- what comes next for a value of type t, within the depth limit
 abbrev pub next_at : List TypeInfo → ℕ → Next
 next_at r t = if is_finite r t then form_of r t else next.Stop stop.NoFiniteValue
 
--- a compact over nothing takes no bytes
+-- a compact whose target is the unit takes no bytes
 abbrev pub compact_next : Option Target → Next
 compact_next over = if is_unit over then next.Wants form.Empty else compact_form over
 
--- what comes where a value of a type of this step is next, within the depth limit
+-- what comes next for a value of a type with this step, within the depth limit
 abbrev pub next_of_step : TypeStep → Next
 next_of_step (step.Compact over) = compact_next over
 next_of_step (step.NoArm from count) = next.Stop stop.NoFiniteValue

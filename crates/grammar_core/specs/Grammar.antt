@@ -12,11 +12,11 @@ use Rattle.grammar_core.specs.Tree.{Leaf, Tree, leaf, branch, fields, arm, list,
 use Rattle.grammar_core.specs.Tree.{how_many}
 use Rattle.grammar_core.specs.Ways.{SpelledBy, way_of}
 
--- the bytes that spell this leaf, which is a value of a type of this layout
+-- the bytes spell this leaf, a value of a type of this layout
 abbrev pub SpellsLeaf : Layout → Leaf → List ℕ → Type 0
 SpellsLeaf f l b = (p : Plain) × (f ≡ layout.plain p) × SpelledBy (way_of p) l b
 
--- v is a value of type t, and b is what it is in bytes
+-- v is a value of type t, and b is its bytes
 unfoldable mutual
   pub Val : List TypeInfo → ℕ → Tree → List ℕ → Type 0
   Val r t (leaf l) b = SpellsLeaf (layout r t) l b

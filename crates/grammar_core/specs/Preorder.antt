@@ -1,4 +1,4 @@
--- A tree as the list of its nodes in preorder, each with how many children it has.
+-- A tree as the list of its nodes in preorder, each with its number of children.
 use Rattle.std.specs.Prelude.{◌≡◌, ℕ, zero, suc, ◌≤◌, ℤ, pos, List, [], ◌∷◌, ◌++◌, length, true}
 use Rattle.std.specs.Prelude.{refl, if◌then◌else◌, ◌==◌}
 use Rattle.std.specs.Coded.{Coded, code_by, coded×, coded_ℕ, coded_ℤ, coded_list}
@@ -8,7 +8,7 @@ use Rattle.grammar_core.specs.Tree as tree
 use Rattle.grammar_core.specs.Tree.{Leaf, Branch, Tree, Trees, none, and, how_many, levels}
 use Rattle.grammar_core.specs.Tree.{most_levels}
 
--- a node by itself: what it is, and how many children it has or is to have
+-- a node without its children: what it is, and how many children it has or will have
 pub data Head : Type 0 where
   leaf : Leaf → Head
   branch : Branch → ℕ → Head
@@ -35,7 +35,7 @@ abbrev mutual
   all_preorder none = []
   all_preorder (and v vs) = preorder v ++ all_preorder vs
 
--- n trees, by a function that grows one
+-- n trees, each grown by the function `one`
 abbrev pub many : (List Head → Tree × List Head) → ℕ → List Head → Trees × List Head
 many one zero hs = (none, hs)
 many one (suc n) hs = let v = one hs in let vs = many one n v.1 in (and v.0 vs.0, vs.1)
@@ -43,7 +43,7 @@ many one (suc n) hs = let v = one hs in let vs = many one n v.1 in (and v.0 vs.0
 abbrev pub grown : Head → Trees × List Head → Tree × List Head
 grown h vs = (tree_with h vs.0, vs.1)
 
--- the tree that the list begins with, of so many levels at most, and the nodes after it
+-- the tree at the front of the list, of at most so many levels, and the nodes after it
 abbrev pub grow : ℕ → List Head → Tree × List Head
 grow zero hs = (tree.leaf tree.unit, hs)
 grow (suc k) [] = (tree.leaf tree.unit, [])

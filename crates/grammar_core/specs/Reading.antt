@@ -41,7 +41,7 @@ abbrev pub with_children : Branch → Read Refusal Trees → Read Refusal Tree
 with_children k (Ok x) = Ok (branch k x.0, x.1)
 with_children k (Err e) = Err e
 
--- a value of each of these types, one after the other, by a reader of one value
+-- one value of each of these types, in order, each read by `child`
 abbrev pub all_at : (ℕ → ValueReader Tree) → List ℕ → ValueReader Trees
 all_at child [] bytes = Ok (none, bytes)
 all_at child (t ∷ ts) bytes = do
@@ -49,7 +49,7 @@ all_at child (t ∷ ts) bytes = do
   others ← all_at child ts first.1
   Ok (and first.0 others.0, others.1)
 
--- n values of one type, one after the other
+-- n values of one type, one after the other, each read by `child`
 abbrev pub times_at : (ℕ → ValueReader Tree) → ℕ → ℕ → ValueReader Trees
 times_at child zero t bytes = Ok (none, bytes)
 times_at child (suc n) t bytes = do
@@ -57,12 +57,12 @@ times_at child (suc n) t bytes = do
   others ← times_at child n t first.1
   Ok (and first.0 others.0, others.1)
 
--- a value of each part of a node, one after the other
+-- the values of the parts of a node, in order
 abbrev pub part_at : (ℕ → ValueReader Tree) → Part → ValueReader Trees
 part_at child (each ts) bytes = all_at child ts bytes
 part_at child (times n t) bytes = times_at child n t bytes
 
--- the fields of the arm that the index names, which stands at the front of at
+-- the fields of the arm found for the index, which is the first byte of `at`
 abbrev pub fields_after_index : (ℕ → ValueReader Tree) → List ℕ → Option (ℕ × Arm) →
     ValueReader Tree
 fields_after_index child at (Some found) rest =
@@ -83,7 +83,7 @@ elements_at child t (Err e) = Err (basic e.0, e.1)
 abbrev pub leaf_at : Plain → ValueReader Tree
 leaf_at p bytes = as_leaf (read_by (way_of p) bytes)
 
--- a value of this layout, whose children the reader child reads
+-- a value of this layout, with `child` as the reader of its children
 unfoldable pub layout_at : (ℕ → ValueReader Tree) → Layout → ValueReader Tree
 layout_at child layout.unknown bytes = Err (no_finite_value, bytes)
 layout_at child layout.bit_sequence bytes = Err (bit_sequence, bytes)
@@ -94,7 +94,7 @@ layout_at child (layout.arms arms) bytes = arms_at child arms bytes
 layout_at child (layout.sequence t) bytes = elements_at child t (compact_at target.U32 bytes)
 layout_at child (layout.array n t) bytes = with_children list (times_at child n t bytes)
 
--- a value of type t, with room for so many levels
+-- a value of type t, with so many levels left for it
 unfoldable pub value_at : List TypeInfo → ℕ → ℕ → ValueReader Tree
 value_at r zero t bytes = Err (too_deep, bytes)
 value_at r (suc room) t bytes =

@@ -1,5 +1,5 @@
--- The one spelling of a value: the bytes of each node by itself, one after the other in preorder
--- (SCALE codec, "Types").
+-- The one spelling of a value: the bytes of each node without its children, in preorder (SCALE
+-- codec, "Types").
 use Rattle.std.specs.Prelude.{◌≡◌, ℕ, suc, ◌-◌, ◌^◌, ℤ, pos, negsuc, List, [], ◌∷◌, ◌++◌, length}
 use Rattle.std.specs.Prelude.{flat_map, Option, Some, None, slice_get, option_map, Bool, true}
 use Rattle.std.specs.Prelude.{false, if◌then◌else◌}
@@ -20,7 +20,7 @@ use Rattle.grammar_core.specs.Tree as tree
 use Rattle.grammar_core.specs.Preorder.{Head}
 use Rattle.grammar_core.specs.Cells.{Cell, cells}
 
--- how many bytes an integer of at most 128 bits has; what is no such integer has none of this kind
+-- how many bytes an integer of at most 128 bits has; 0 for any other kind
 abbrev pub kind_width : PrimitiveKind → ℕ
 kind_width (K.Unsigned w) = width_bytes w
 kind_width (K.Signed w) = width_bytes w
@@ -29,17 +29,17 @@ kind_width _ = 0
 abbrev pub byte_width : Primitive → ℕ
 byte_width p = kind_width (kind_of p)
 
--- the same of a definition
+-- the same for a definition
 abbrev pub width_of : Option TypeDef → ℕ
 width_of (Some (Def.Primitive p)) = byte_width p
 width_of _ = 0
 
--- the number that the 128 bits of an integer in two's complement spell
+-- the two's complement of an integer in 128 bits, as a number
 abbrev pub word : ℤ → ℕ
 word (pos n) = n
 word (negsuc m) = 2 ^ 128 - suc m
 
--- the index of the arm at a position, where the definition is a variant that has one there
+-- the index of the arm at a position, if the definition is a variant with an arm there
 abbrev pub index_of : Option TypeDef → ℕ → Option ℕ
 index_of (Some (Def.Variant arms)) q = option_map (λ a. a.index) (slice_get arms q)
 index_of _ q = None
@@ -53,7 +53,7 @@ abbrev pub is_sequence : Option TypeDef → Bool
 is_sequence (Some (Def.Sequence t)) = true
 is_sequence _ = false
 
--- a sequence has its length in front, and an array has not
+-- a sequence begins with its length, and an array doesn't
 abbrev pub length_bytes : Option TypeDef → ℕ → List ℕ
 length_bytes d n = if is_sequence d then compact n else []
 
@@ -88,7 +88,7 @@ cell_bytes r c = own_bytes (shape r c.ty) c.head
 abbrev pub spelled : List TypeInfo → ℕ → Tree → List ℕ
 spelled r t v = flat_map (cell_bytes r) (cells r t v)
 
--- the bytes that spell a value by the grammar are these
+-- `spelled` gives the bytes that spell a value by the grammar
 abbrev pub EncodedIsValue : Type 0
 EncodedIsValue = (r : List TypeInfo) (t : ℕ) (v : Tree) (b : List ℕ) → AreBytes b → Val r t v b →
     spelled r t v ≡ b

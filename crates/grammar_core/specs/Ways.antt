@@ -1,5 +1,5 @@
--- How the bytes of a value without parts are read and spelled: a kind of value is a row, and there
--- are four ways (SCALE codec, "Types").
+-- How the bytes of a value without parts are read and spelled: each kind of value has one of four
+-- ways (SCALE codec, "Types").
 use Rattle.std.specs.Prelude.{◌≡◌, ℕ, zero, suc, List, [], ◌∷◌, length, Bool, true, false, Option}
 use Rattle.std.specs.Prelude.{Some, None, Ok, Err, if◌then◌else◌}
 use Rattle.scale_core.specs.Number.{number, signed_number, is_scalar}
@@ -15,8 +15,8 @@ use Rattle.widths_core.specs.declared.run_kind.RunKind.{RunKind}
 use Rattle.grammar_core.specs.Tree.{Leaf, unit, bool, char, unsigned, signed, wide, compact, count}
 use Rattle.grammar_core.specs.Runs.{SpellsRun, run_leaf, run_at}
 
--- no byte, and this leaf; so many bytes, of which a leaf is made unless they are refused; a compact
--- integer, of which a leaf is made; or a text or a run of bytes
+-- no byte, for this leaf; so many bytes, made into a leaf unless they are rejected; a compact
+-- integer, made into a leaf; or a text or a run of bytes
 pub data Way : Type 0 where
   of_no_byte : Leaf → Way
   of_width : ℕ → (List ℕ → Leaf) → (List ℕ → Option Reason) → Way
@@ -37,7 +37,7 @@ bool_fault _ = Some reason.BadBool
 abbrev pub char_fault : List ℕ → Option Reason
 char_fault b = if is_scalar (number b) then None else Some reason.BadChar
 
--- a row for each kind
+-- the way of each kind
 abbrev pub way_of : Plain → Way
 way_of layout.empty = of_no_byte unit
 way_of layout.bool = of_width 1 (λ b. bool (spells_true b)) bool_fault
@@ -59,12 +59,12 @@ SpelledBy (of_run k) l b = (s : List ℕ) × (l ≡ run_leaf k s) × SpellsRun k
 
 -- ---- how they are read
 
--- the leaf that is made of what was read
+-- the leaf made from what was read
 abbrev pub leaf_of : {X : Type 0} → (X → Leaf) → Read Reason X → Read Reason Leaf
 leaf_of make (Ok x) = Ok (make x.0, x.1)
 leaf_of make (Err e) = Err e
 
--- the leaf that bytes are, unless they are refused, at their front
+-- the leaf, or, if its bytes are rejected, the fault at their first byte
 abbrev pub judged_leaf : List ℕ → Leaf → List ℕ → Option Reason → Read Reason Leaf
 judged_leaf at l rest None = Ok (l, rest)
 judged_leaf at l rest (Some e) = Err (e, at)

@@ -126,7 +126,7 @@ opened_left r a b i d e types o =
       go (Def.Compact t) = refl
       go (Def.BitSequence s x) = refl
 
--- what is told of a type that was just opened
+-- what is reported for a type that was just opened
 pub told_opened : (r : List TypeInfo) (a b : Graph) (i : ℕ) (d : TypeDef) → shape r i ≡ Some d →
     a.registry ≡ r → IsOpened a b i → IsTold b (outline d) × (open_definition (current b) ≡ d)
 told_opened r a b i d e types o =

@@ -1,4 +1,4 @@
--- Where the reading of definitions stands, and what is left of the open one.
+-- How far the definitions were read, and what is left of the open one.
 use Rattle.std.specs.Prelude.{ℕ, zero, suc, List, [], ◌∷◌, ◌++◌, length, drop, flat_map, Option}
 use Rattle.std.specs.Prelude.{Some, None}
 use Rattle.std.specs.Prelude.{slice_get, option_map}
@@ -8,18 +8,18 @@ use Rattle.registry_core.specs.declared.definition.TypeDef.TheVariants as Def
 use Rattle.graph_core.specs.declared.graph.Graph.{Graph}
 use Rattle.graph_core.specs.Types.{ids, field_types}
 
--- the last of the first k, where there is one
+-- the last of the first k items, if there is one
 abbrev pub last_of : {X : Type 0} → List X → ℕ → Option X
 last_of xs zero = None
 last_of xs (suc k) = slice_get xs k
 
--- the types of the fields of an arm that is open
+-- the types of the fields of an open arm
 abbrev pub fields_open : Option Arm → List ℕ
 fields_open (Some a) = field_types a.fields
 fields_open None = []
 
--- the references that are open in a definition, where the first k of its arms were begun: the
--- types of the fields of the last of these, or the references that stand in no arm
+-- the open references of a definition whose first k arms were begun: the types of the fields of the
+-- last of these arms, or the references outside any arm
 abbrev pub open_references : TypeDef → ℕ → List ℕ
 open_references (Def.Composite fs) k = field_types fs
 open_references (Def.Variant arms) k = fields_open (last_of arms k)
@@ -34,11 +34,11 @@ abbrev pub arms_of : TypeDef → List Arm
 arms_of (Def.Variant arms) = arms
 arms_of _ = []
 
--- the definition that is open
+-- the open definition, if there is one
 abbrev pub current : Graph → Option TypeDef
 current g = option_map (λ i. i.shape) (last_of g.registry g.cursor.types)
 
--- the same, and where none is open a definition without references
+-- the same, or a definition without references if none is open
 abbrev pub open_definition : Option TypeDef → TypeDef
 open_definition (Some d) = d
 open_definition None = Def.Tuple []
@@ -51,7 +51,7 @@ abbrev pub arms_after : Option TypeDef → ℕ → List Arm
 arms_after (Some d) arms = drop arms (arms_of d)
 arms_after None arms = []
 
--- the references that are open and were not read
+-- the open references that were not read
 abbrev pub parts_left : Graph → List ℕ
 parts_left g = parts_after (current g) g.cursor.arms g.cursor.parts
 
@@ -67,11 +67,11 @@ abbrev pub arm_after : Option TypeDef → ℕ → Option Arm
 arm_after (Some d) arms = slice_get (arms_of d) arms
 arm_after None arms = None
 
--- the next reference that is open, where one is left
+-- the next open reference, if one is left
 abbrev pub next_reference : Graph → Option ℕ
 next_reference g = reference_after (current g) g.cursor.arms g.cursor.parts
 
--- the next arm of the open definition, where one is left
+-- the next arm of the open definition, if one is left
 abbrev pub next_arm : Graph → Option Arm
 next_arm g = arm_after (current g) g.cursor.arms
 

@@ -1,4 +1,4 @@
--- Types and the lists of the references to each.
+-- Types, and for each the list of the references to it.
 use Rattle.std.specs.Prelude.{◌≡◌, ℕ, suc, ◌+◌, ◌<◌, ◌≤◌, ◌^◌, List, [], ◌∷◌, ◌++◌, length, map}
 use Rattle.std.specs.Prelude.{reverse, slice_index, Option, Some, None}
 use Rattle.registry_core.specs.declared.definition.Arm.{Arm}
@@ -13,16 +13,17 @@ use Rattle.graph_core.specs.Types.{field_types}
 abbrev pub refs : Graph → List ℕ
 refs d = reverse d.looks.read.entries
 
--- the counter of each
+-- the counter of each reference
 abbrev pub numbers : Graph → List ℕ
 numbers d = map (λ l. l.counter) d.links.items
 
--- one more than the number of the reference before it in its list, or 0
+-- for each reference, one more than the number of the one before it in its list, or 0 if it is the
+-- first
 abbrev pub befores : Graph → List ℕ
 befores d = map (λ l. l.before) d.links.items
 
--- a is one more than the number of the last of the first k references that is to type u, or 0 where
--- there is none
+-- a is one more than the number of the last reference to type u among the first k, or 0 if there is
+-- none
 pub record IsLast (xs : List ℕ) (k u a : ℕ) : Type 0 where
   pub within : a ≤ k
   pub last : (e : ℕ) → e < k → slice_index xs e ≡ u → e < a
@@ -40,8 +41,8 @@ pub record IsLinked (d : Graph) : Type 0 where
   pub before : (e : ℕ) → e < length (refs d) →
       IsLast (refs d) e (slice_index (refs d) e) (slice_index (befores d) e)
 
--- from one graph to the other these references of the open definition were read, and nothing else
--- was looked at
+-- between the two graphs, these references of the open definition were read, and nothing else was
+-- looked at
 pub record ReadsOn (a b : Graph) (tos : List ℕ) : Type 0 where
   pub types : b.registry ≡ a.registry
   pub place : b.cursor.types ≡ a.cursor.types
@@ -50,13 +51,13 @@ pub record ReadsOn (a b : Graph) (tos : List ℕ) : Type 0 where
   pub opened : b.looks.opened.entries ≡ a.looks.opened.entries
   pub listed : b.looks.listed.entries ≡ a.looks.listed.entries
 
--- from one graph to the other these references were read, and put into lists for these counters
+-- between the two graphs, these references were read and put into lists with these counters
 pub record ReadsReferences (a b : Graph) (tos counters : List ℕ) : Type 0 where
   pub linked : IsLinked b
   pub on : ReadsOn a b tos
   pub counted : numbers b ≡ numbers a ++ counters
 
--- the next reference was read, and put into its list for this counter
+-- the next reference was read and put into its list with this counter
 pub record ReadsNext (a b : Graph) (to counter : ℕ) : Type 0 where
   pub reads : ReadsReferences a b (to ∷ []) (counter ∷ [])
   pub parts : parts_left a ≡ to ∷ parts_left b
@@ -72,7 +73,7 @@ abbrev pub one_or_none : Option ℕ → List ℕ
 one_or_none (Some u) = u ∷ []
 one_or_none None = []
 
--- the next reference that is open was read, where one was left
+-- the next open reference was read, if one was left
 pub record IsReadNext (a b : Graph) (to : Option ℕ) : Type 0 where
   pub on : ReadsOn a b (one_or_none to)
   pub parts : parts_left a ≡ one_or_none to ++ parts_left b
@@ -80,7 +81,7 @@ pub record IsReadNext (a b : Graph) (to : Option ℕ) : Type 0 where
   pub arms : arms_left b ≡ arms_left a
   pub lists : KeepsLists a b
 
--- this arm was begun, which has this index and so many fields
+-- an arm with this index and so many fields was begun
 pub record BeginsArm (a b : Graph) (index count : ℕ) : Type 0 where
   pub arm : Arm
   pub arms : arms_left a ≡ arm ∷ arms_left b
@@ -90,12 +91,12 @@ pub record BeginsArm (a b : Graph) (index count : ℕ) : Type 0 where
   pub on : ReadsOn a b []
   pub lists : KeepsLists a b
 
--- the next arm was begun, where one was left
+-- the next arm was begun, if one was left
 abbrev pub IsArmNext : Graph → Graph → Option (ℕ × ℕ) → Type 0
 IsArmNext a b None = (arms_left a ≡ []) × (arms_left b ≡ []) × (parts_left b ≡ []) × ReadsOn a b []
 IsArmNext a b (Some x) = BeginsArm a b x.0 x.1
 
--- nothing was read of these types, and there are no lists yet
+-- nothing of these types was read, and there are no lists yet
 pub record IsUnread (r : List TypeInfo) (d : Graph) : Type 0 where
   pub types : d.registry ≡ r
   pub place : d.cursor.types ≡ 0
@@ -105,7 +106,7 @@ pub record IsUnread (r : List TypeInfo) (d : Graph) : Type 0 where
   pub read : d.looks.read.entries ≡ []
   pub listed : d.looks.listed.entries ≡ []
 
--- no reference was read of these types, each of which was looked at once at most
+-- no reference of these types was read, and each type was looked at no more than once
 pub record IsMeasured (r : List TypeInfo) (d : Graph) : Type 0 where
   pub types : d.registry ≡ r
   pub place : d.cursor.types ≡ 0
@@ -117,7 +118,7 @@ pub record IsMeasured (r : List TypeInfo) (d : Graph) : Type 0 where
 abbrev pub AreSeen : List TypeInfo → Graph → Type 0
 AreSeen r d = (t : ℕ) → t < length r → 1 ≤ times t d.looks.opened.entries
 
--- from one graph to the other no look was taken and nothing was opened
+-- between the two graphs, nothing was looked at and nothing was opened
 pub record Waits (a b : Graph) : Type 0 where
   pub types : b.registry ≡ a.registry
   pub cursor : b.cursor ≡ a.cursor
@@ -125,13 +126,13 @@ pub record Waits (a b : Graph) : Type 0 where
   pub read : b.looks.read.entries ≡ a.looks.read.entries
   pub listed : b.looks.listed.entries ≡ a.looks.listed.entries
 
--- there are empty lists, and no reference was read
+-- the lists are empty, and no reference was read
 pub record IsNew (d : Graph) : Type 0 where
   pub linked : IsLinked d
   pub links : d.links.items ≡ []
   pub members : d.members.items ≡ []
 
--- there was one more look, at the definition of type t, which is open from then on
+-- the definition of type t was looked at once more, and is open from then on
 pub record IsOpened (a b : Graph) (t : ℕ) : Type 0 where
   pub opened : b.looks.opened.entries ≡ t ∷ a.looks.opened.entries
   pub types : b.registry ≡ a.registry
@@ -140,7 +141,7 @@ pub record IsOpened (a b : Graph) (t : ℕ) : Type 0 where
   pub read : b.looks.read.entries ≡ a.looks.read.entries
   pub listed : b.looks.listed.entries ≡ a.looks.listed.entries
 
--- there was one more look, at the definition of type t, and none is open for it
+-- the definition of type t was looked at once more, without being opened
 pub record IsGlanced (a b : Graph) (t : ℕ) : Type 0 where
   pub opened : b.looks.opened.entries ≡ t ∷ a.looks.opened.entries
   pub types : b.registry ≡ a.registry
@@ -148,7 +149,7 @@ pub record IsGlanced (a b : Graph) (t : ℕ) : Type 0 where
   pub read : b.looks.read.entries ≡ a.looks.read.entries
   pub listed : b.looks.listed.entries ≡ a.looks.listed.entries
 
--- there was one more look, at reference e in its list
+-- reference e was looked at once more in its list
 pub record IsListed (a b : Graph) (e : ℕ) : Type 0 where
   pub listed : b.looks.listed.entries ≡ e ∷ a.looks.listed.entries
   pub types : b.registry ≡ a.registry

@@ -1,4 +1,4 @@
--- What a graph tells of a definition when it opens it.
+-- What a graph reports about a definition when it opens it.
 use Rattle.std.specs.Prelude.{◌≡◌, List, [], ◌∷◌, length}
 use Rattle.registry_core.specs.declared.definition.Arm.{Arm}
 use Rattle.registry_core.specs.declared.definition.Field.{Field}
@@ -22,7 +22,7 @@ outline (Def.Primitive p) = told.Primitive p
 outline (Def.Compact t) = told.Compact
 outline (Def.BitSequence store order) = told.BitSequence
 
--- this was told of the open definition, of which nothing was read
+-- this was reported for the open definition, and none of it was read yet
 abbrev pub IsTold : Graph → Definition → Type 0
 IsTold g (told.Composite n) = (fs : List Field) × (open_definition (current g) ≡ Def.Composite fs)
     × (parts_left g ≡ field_types fs) × (n ≡ length fs)

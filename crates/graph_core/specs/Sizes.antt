@@ -1,4 +1,4 @@
--- How many references and arms a registry has, and how many parts a value at most.
+-- How many references and arms a registry has, and how many parts a value has at most.
 use Rattle.std.specs.Prelude.{◌≡◌, ℕ, ◌+◌, List, [], ◌∷◌, length, flat_map}
 use Rattle.registry_core.specs.declared.definition.TypeDef.{TypeDef}
 use Rattle.registry_core.specs.declared.definition.TypeDef.TheVariants as Def
@@ -15,13 +15,13 @@ abbrev pub arm_counts : List TypeInfo → ℕ
 arm_counts [] = 0
 arm_counts (x ∷ r) = arm_count x.shape + arm_counts r
 
--- these are the numbers of references and of arms, and the width
+-- the numbers of references and of arms of a registry, and its width
 pub record AreSizes (r : List TypeInfo) (s : Sizes) : Type 0 where
   pub references : s.references ≡ length (flat_map (λ i. references i.shape) r)
   pub arms : s.arms ≡ arm_counts r
   pub widest : s.widest ≡ widest r
 
--- these are the numbers of one definition
+-- the same for one definition
 pub record AreSizesOf (d : TypeDef) (s : Sizes) : Type 0 where
   pub references : s.references ≡ length (references d)
   pub arms : s.arms ≡ arm_count d

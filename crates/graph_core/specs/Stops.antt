@@ -16,8 +16,8 @@ use Rattle.graph_core.specs.Graphs.{refs, ReadsOn}
 use Rattle.graph_core.specs.References.{AreKnown, references, first_fault}
 use Rattle.graph_core.specs.Types.{shape}
 
--- u is the first of these references that is no position; it and those before it were read, each
--- once
+-- u is the first of these references that is not a position; it and those before it were read once
+-- each
 pub record StopsAt (tos : List ℕ) (a b : Graph) (u : ℕ) : Type 0 where
   pub front : List ℕ
   pub back : List ℕ
@@ -26,14 +26,14 @@ pub record StopsAt (tos : List ℕ) (a b : Graph) (u : ℕ) : Type 0 where
   pub unknown : length a.registry ≤ u
   pub on : ReadsOn a b (front ++ u ∷ [])
 
--- some references were read, all of which are positions
+-- some references were read, and all of them are positions
 pub record StopsBetween (a b : Graph) : Type 0 where
   pub front : List ℕ
   pub known : AreKnown (length a.registry) front
   pub on : ReadsOn a b front
 
--- where linking did not stop at an allocation failure, it stopped at the first of these references
--- that is no position
+-- linking stopped at an allocation failure, or at the first of these references that is not a
+-- position
 abbrev pub StopsLinking : List ℕ → Graph → Graph → LinkStop → Type 0
 StopsLinking tos a b stop.Memory = StopsBetween a b
 StopsLinking tos a b (stop.Unknown u) = StopsAt tos a b u
@@ -43,28 +43,28 @@ abbrev pub fault_in : ℕ → LinkStop → CheckFault
 fault_in i stop.Memory = OutOfMemory
 fault_in i (stop.Unknown u) = UnknownType (record { 0 = i }) (record { 0 = u })
 
--- the fault is the unknown reference, or an allocation failure where there is none
+-- the fault is the unknown reference, or an allocation failure if there is none
 abbrev pub IsFaultOf : CheckFault → Option (ℕ × ℕ) → Type 0
 IsFaultOf (UnknownType from to) unknown = unknown ≡ Some (from.0, to.0)
 IsFaultOf OutOfMemory unknown = unknown ≡ None
 
--- each type was looked at twice at most, and the references of the definitions once at most, in
--- their order; no list was looked at
+-- each type was looked at no more than twice, and each reference of the definitions no more than
+-- once, in order; no list was looked at
 pub record HasFewLooksUntil (r : List TypeInfo) (l : Looks) : Type 0 where
   pub types : (t : ℕ) → times t l.opened.entries ≤ 2
   pub back : List ℕ
   pub read : flat_map (λ i. references i.shape) r ≡ reverse l.read.entries ++ back
   pub listed : l.listed.entries ≡ []
 
--- where k types were opened, the references of those before the last one were read, and of the last
--- one all but these
+-- k types were opened, and all their references were read except these, the last ones of the last
+-- type
 abbrev pub IsReadTo : List TypeInfo → ℕ → List ℕ → List ℕ → Type 0
 IsReadTo r zero read left = (read ≡ []) × (left ≡ [])
 IsReadTo r (suc i) read left = (d : TypeDef) × (shape r i ≡ Some d) × (front : List ℕ)
     × (read ≡ flat_map (λ x. references x.shape) (take i r) ++ front)
     × (references d ≡ front ++ left)
 
--- the types are read for the second time, in their order, with few looks until then
+-- the types are being read for the second time, in order, with few looks so far
 pub record IsReading (r : List TypeInfo) (g : Graph) : Type 0 where
   pub types : g.registry ≡ r
   pub read : IsReadTo r g.cursor.types (refs g) (left g)
@@ -77,14 +77,14 @@ pub record IsUnderWay (r : List TypeInfo) (g : Graph) : Type 0 where
   pub reading : IsReading r g
   pub known : AreKnown (length r) (refs g)
 
--- an unknown reference is the first one, found with few looks; where an allocation failed, the
+-- an unknown reference is the first one, found with few looks; after an allocation failure, the
 -- types can be read on
 abbrev pub IsRefusedFor : List TypeInfo → Graph → CheckFault → Type 0
 IsRefusedFor r g (UnknownType from to) = (first_fault r ≡ Some (from.0, to.0))
     × HasFewLooksUntil r g.looks × (g.registry ≡ r)
 IsRefusedFor r g OutOfMemory = IsUnderWay r g
 
--- the fault that is found, with few looks
+-- the fault, found with few looks
 pub record IsFaultWithin (r : List TypeInfo) (g : Graph) (fault : CheckFault) : Type 0 where
   pub types : g.registry ≡ r
   pub fault_is : IsFaultOf fault (first_fault r)
@@ -95,7 +95,7 @@ abbrev pub HasFewLooksFor : List TypeInfo → Looks → CheckFault → Type 0
 HasFewLooksFor r l (UnknownType from to) = HasFewLooksUntil r l
 HasFewLooksFor r l OutOfMemory = Unit {0}
 
--- the fault that is answered; an unknown reference was found with few looks
+-- the fault that is returned; an unknown reference was found with few looks
 pub record IsAnsweredFault (r : List TypeInfo) (g : Graph) (fault : CheckFault) : Type 0 where
   pub types : g.registry ≡ r
   pub fault_is : IsFaultOf fault (first_fault r)

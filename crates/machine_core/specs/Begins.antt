@@ -1,12 +1,12 @@
--- What was added before a fault is a begun tree.
+-- The nodes that were added before a fault are a begun tree.
 use Rattle.std.specs.Prelude.{◌≡◌, ℕ, List, [], ◌++◌, Some, Err}
 use Rattle.registry_core.specs.declared.type_info.TypeInfo.{TypeInfo}
 use Rattle.grammar_core.specs.Begun.{Begun, IsPart, Grows, begun_preorder}
 use Rattle.value_core.specs.Built.{Entry}
 use Rattle.machine_core.specs.Reported.{Fault, reported, shown, reported_at}
 
--- the nodes of a begun tree are there, and its next type fails on the bytes after its own, with
--- the room that there is
+-- the nodes are those of a begun tree, and its next type fails on the bytes after the tree's, with
+-- the levels left there
 pub record Begins (r : List TypeInfo) (room t : ℕ) (b : List ℕ) (xs : List Entry) (e : Fault) : Type
     0 where
   pub tree : Begun
@@ -19,7 +19,7 @@ pub record Begins (r : List TypeInfo) (room t : ℕ) (b : List ℕ) (xs : List E
   pub shows : shown xs ≡ begun_preorder tree
   pub meets : reported_at r below next e.1 ≡ reported [] (Err e)
 
--- what was added before a fault is a begun tree
+-- the nodes that were added before a fault are a begun tree
 abbrev pub FaultIsBegun : Type 0
 FaultIsBegun = (r : List TypeInfo) (room t : ℕ) (b : List ℕ) (xs : List Entry) (e : Fault) →
     reported_at r room t b ≡ reported xs (Err e) → Begins r room t b xs e

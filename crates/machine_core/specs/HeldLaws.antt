@@ -13,22 +13,23 @@ use Rattle.machine_core.specs.HeldTree.{Holds, held}
 use Rattle.machine_core.specs.Bound.{node_bound, value_bound}
 use Rattle.machine_core.specs.Outcome.{done, more, Job, IsOutcome}
 
--- the bytes of an open run past its length
+-- how many bytes of an open run came after its length
 abbrev pub past_length : Read Reason ℕ → ℕ
 past_length (Ok n) = length n.1
 past_length (Err e) = 0
 
--- what the bytes of the node that is not there yet have of a text or a run of bytes
+-- how many bytes of a text or a run of bytes are among those of the next node
 abbrev pub open_run : Layout → List ℕ → ℕ
 open_run (layout.plain (layout.run k)) e = past_length (run_length_at k e)
 open_run _ e = 0
 
--- there is one begun tree
+-- an input holds no more than one begun tree
 abbrev pub OneBegun : Type 0
 OneBegun = (r : List TypeInfo) (room t : ℕ) (b : List ℕ) (g h : Begun) (e f : List ℕ) →
     Holds r room t b g e → Holds r room t b h f → (g ≡ h) × (e ≡ f)
 
--- few nodes and bytes of runs for the bytes taken: of a finished value, and while more is wanted
+-- the bytes taken bound the nodes and the bytes of runs, for a complete value and while more bytes
+-- are needed
 abbrev pub HeldIsBounded : Type 0
 HeldIsBounded = (j : Job) (input : List ℕ) (n : ℕ) →
     ((v : Tree) → IsOutcome j input (done v) n →
@@ -38,8 +39,8 @@ HeldIsBounded = (j : Job) (input : List ℕ) (n : ℕ) →
     (begun_nodes g ≤ node_bound n j.depth (widest j.registry))
     × (begun_text_bytes g + open_run (layout j.registry h.2) e ≤ n))
 
--- more is wanted exactly where a begun tree is held, within the byte limit, and it is the one that
--- is computed
+-- more bytes are needed exactly if a begun tree is held, within the byte limit, and the tree is the
+-- computed one
 abbrev pub MoreHolds : Type 0
 MoreHolds = (j : Job) (input : List ℕ) →
     (IsOutcome j input more (length input) → (length input ≤ j.bytes)

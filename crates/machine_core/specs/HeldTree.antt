@@ -1,5 +1,5 @@
--- What is held of an input in which bytes are missing: a begun tree, and the bytes of the node that
--- is not there yet.
+-- What is held of an input in which bytes are missing: a begun tree, and the bytes of the next
+-- node, which is incomplete.
 use Rattle.std.specs.Prelude.{true, ◌≡◌, ℕ, zero, suc, ◌+◌, ◌≤◌, ◌*◌, List, ◌++◌, length}
 use Rattle.std.specs.Prelude.{Option, Some, Ok, Err}
 use Rattle.scale_core.specs.Read.{Read}
@@ -17,26 +17,25 @@ use Rattle.grammar_core.specs.Begun.{begun_text_bytes, begun_levels}
 use Rattle.form_core.specs.PlainReads.{Own}
 use Rattle.machine_core.specs.Reported.{own_at}
 
--- the type that is wanted next may stand there, and its own bytes are not all there
+-- a value of the next type is allowed here, and its own bytes are incomplete
 abbrev pub IsShort : List TypeInfo → ℕ → ℕ → List ℕ → Type 0
 IsShort r room u e = (1 ≤ room) × (is_finite r u ≡ true) × (left : List ℕ)
     × (own_at (layout r u) e ≡ Err (truncated, left))
 
--- what is held while more is wanted: the begun tree, and the bytes of the node that is not there
--- yet
+-- what is held while more bytes are needed: the begun tree, and the bytes of the next node
 abbrev pub Holds : List TypeInfo → ℕ → ℕ → List ℕ → Begun → List ℕ → Type 0
 Holds r room t b g e = (own : List ℕ) × (at : ℕ) × (u : ℕ) × (b ≡ own ++ e)
     × Grows r room t g own (Some (at, u)) × IsShort r at u e
 
 -- ---- the same, computed
 
--- the values that stand in front, and what is held of the part that doesn't
+-- the values of the parts that are complete, and what is held of the first one that isn't
 abbrev pub first_held : Read Refusal Tree → (List ℕ → Trees × (Begun × List ℕ)) → Begun × List ℕ →
     Trees × (Begun × List ℕ)
 first_held (Ok x) others own = let s = others x.1 in (and x.0 s.0, s.1)
 first_held (Err e) others own = (none, own)
 
--- the same of n parts
+-- the same for n parts
 abbrev pub parts_held : (ℕ → ValueReader Tree) → (ℕ → List ℕ → Begun × List ℕ) → ℕ → Part →
     List ℕ → Trees × (Begun × List ℕ)
 parts_held child hold zero p b = (none, (nothing, b))
@@ -44,11 +43,11 @@ parts_held child hold (suc n) p b =
     first_held (child (child_type p) b) (λ c. parts_held child hold n (left_after p) c)
     (hold (child_type p) b)
 
--- a node over what is held of its parts
+-- an open node, with what is held of its parts
 abbrev pub over : Branch → ℕ → Trees × (Begun × List ℕ) → Begun × List ℕ
 over k n s = (open_branch k n s.0 s.1.0, s.1.1)
 
--- where a node's own bytes open parts, it is held over them, and where not, nothing but its bytes
+-- a node whose own bytes open parts is held with these; otherwise only its bytes are held
 abbrev pub own_held : (ℕ → ValueReader Tree) → (ℕ → List ℕ → Begun × List ℕ) → List ℕ → Own →
     Begun × List ℕ
 own_held child hold at (Ok ((head.branch k n, Some p), b)) = over k n (parts_held child hold n p b)
@@ -61,20 +60,20 @@ held r (suc room) t b = own_held (value_at r room) (held r room) b (own_at (layo
 
 -- ---- the laws
 
--- where bytes are missing, a begun tree is held
+-- if bytes are missing, a begun tree is held
 abbrev pub MissingIsBegun : Type 0
 MissingIsBegun = (r : List TypeInfo) (room t : ℕ) (b left : List ℕ) →
     value_at r room t b ≡ Err (truncated, left) → (g : Begun) × (e : List ℕ) × IsPart g
     × Holds r room t b g e
 
--- where one is held, bytes are missing, and it is the one that is computed: so there is one alone
+-- if a begun tree is held, bytes are missing, and the tree is the computed one, so it is unique
 abbrev pub BegunIsMissing : Type 0
 BegunIsMissing = (r : List TypeInfo) (room t : ℕ) (b : List ℕ) (g : Begun) (e : List ℕ) →
     Holds r room t b g e → ((left : List ℕ) × (value_at r room t b ≡ Err (truncated, left)))
     × (held r room t b ≡ (g, e))
 
--- its levels fit, and it has few nodes for its bytes, its levels and the width of the registry, and
--- no more bytes of texts and runs of bytes than bytes
+-- the levels of a begun tree fit. Its nodes are bounded by its bytes, the levels allowed and the
+-- width of the registry. Its texts and runs of bytes have no more bytes than it has
 abbrev pub BegunIsBounded : Type 0
 BegunIsBounded = (r : List TypeInfo) (room t : ℕ) (g : Begun) (b : List ℕ) (next : Option (ℕ × ℕ)) →
     Grows r room t g b next →

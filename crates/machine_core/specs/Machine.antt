@@ -7,21 +7,21 @@ use Rattle.grammar_core.specs.Parts.{Part, times}
 use Rattle.value_core.specs.Built.{Entry}
 use Rattle.machine_core.specs.Reported.{Reported, added, rest_reported}
 
--- the nodes so far, the parts that are still to be read, the innermost first, and the room that its
--- values have
+-- the nodes so far, the levels left for the values of the innermost part, and the parts that are
+-- still to be read, the innermost first
 pub record State : Type 0 where
   pub nodes : List Entry
   pub room : ℕ
   pub pending : List Part
 
--- what the state will add of these bytes
+-- what these bytes will add to this state
 abbrev pub remain : List TypeInfo → State → List ℕ → Reported
 remain r s x = rest_reported r s.room s.pending x
 
 abbrev pub start : ℕ → ℕ → State
 start depth t = record { nodes = []; room = suc depth; pending = times 1 t ∷ [] }
 
--- turns that are enough
+-- a number of turns that is enough
 abbrev pub to_go : List TypeInfo → State → List ℕ → ℕ
 to_go r s x = 2 * length (added (remain r s x)) + length s.pending
 

@@ -1,5 +1,5 @@
--- The layout by which a type is read where it is met: a type with no finite value is refused as an
--- unknown one is.
+-- The layout by which a type is read when it is met: a type without a finite value is rejected like
+-- an unknown one.
 use Rattle.std.specs.Prelude.{ℕ, List, if◌then◌else◌}
 use Rattle.registry_core.specs.declared.type_info.TypeInfo.{TypeInfo}
 use Rattle.widths_core.specs.Classes.{is_finite}

@@ -1,5 +1,4 @@
--- What the bytes of the next node make of a value that is built: the value with the node, or a
--- refusal.
+-- What the bytes of the next node do to a value being built: they add the node, or are rejected.
 use Rattle.std.specs.Prelude.{false, ◌⊎◌, ◌≡◌, ℕ, List, [], Option, Some, None, Result, Ok, Err}
 use Rattle.scale_core.specs.Read.{place}
 use Rattle.widths_core.specs.declared.run_kind.RunKind.{RunKind}
@@ -20,17 +19,17 @@ use Rattle.machine_core.specs.declared.reason.DecodeReason.{DecodeReason}
 use Rattle.machine_core.specs.declared.node.NodeFault.{NodeFault}
 use Rattle.machine_core.specs.declared.node.NodeFault.TheVariants as fault
 
--- a node without children, or one that opens these parts
+-- the value with a node without children, or with one that opens these parts
 abbrev pub with_own : Built → Head × Option Part → Built
 with_own b (h, None) = with_leaf b h
 with_own b (h, Some p) = with_open b h p
 
--- the bytes are those of the next node, and nothing else
+-- the bytes are exactly those of the next node, which is added
 abbrev pub IsAdded : Built → Built → List ℕ → Type 0
 IsAdded old new own = (x : Head × Option Part) × (own_at (next_layout old) own ≡ Ok (x, []))
     × (new ≡ with_own old x)
 
--- the next node is refused for this reason, at this place from its first byte
+-- the next node is rejected with this reason, at this place from its first byte
 abbrev pub IsRefused : Built → List ℕ → DecodeReason → ℕ → Type 0
 IsRefused b own reported at = (e : Refusal) × (left : List ℕ)
     × (own_at (next_layout b) own ≡ Err (e, left)) × (is_cut e ≡ false) × (reported ≡ reason_of e)
@@ -40,28 +39,28 @@ IsRefused b own reported at = (e : Refusal) × (left : List ℕ)
 abbrev pub IsSpelled : Built → List ℕ → Type 0
 IsSpelled b own = (x : Head × Option Part) × (own_at (next_layout b) own ≡ Ok (x, []))
 
--- what the next node's bytes make of a value; an allocation fails only for a node that they spell
+-- what the next node's bytes do to a value; an allocation fails only for a node that they spell
 abbrev pub AddsNode : Built → Built → List ℕ → Result (Unit {0}) NodeFault → Type 0
 AddsNode old new own (Ok _) = IsAdded old new own
 AddsNode old new own (Err (fault.Refused reported at)) = IsRefused old own reported at × (new ≡ old)
 AddsNode old new own (Err fault.OutOfMemory) = IsSpelled old own × (new ≡ old)
 
--- the same of bytes that spell it
+-- the same for bytes that spell the node
 abbrev pub AddsBytes : {E : Type 0} → Built → Built → List ℕ → Result (Unit {0}) E → Type 0
 AddsBytes old new own (Ok _) = IsAdded old new own
 AddsBytes old new own (Err e) = IsSpelled old own × (new ≡ old)
 
--- the bytes are the length of the run that is next, which is open and lacks all its bytes
+-- the bytes are the length of the next run, which is now open and has none of its bytes yet
 abbrev pub IsRunOpened : Form → Built → Built → List ℕ → Type 0
 IsRunOpened f old new own = (k : RunKind) × (n : ℕ) × (f ≡ run_form k)
     × (run_length_at k own ≡ Ok (n, [])) × (new ≡ with_run_opened old k n)
 
--- what the next node's own bytes make of it, be it a run or not
+-- what the next node's own bytes do to a value, whether the node is a run or not
 abbrev pub TakesNode : Form → Built → Built → List ℕ → Result (Unit {0}) NodeFault → Type 0
 TakesNode f old new own (Ok _) = IsAdded old new own ⊎ IsRunOpened f old new own
 TakesNode f old new own (Err e) = AddsNode old new own (Err e)
 
--- no run is open, and these bytes are a value of the next type without parts, which the leaf is
+-- no run is open, and these bytes spell this leaf, a value of the next type
 pub record IsWholeLeaf (b : Built) (own : List ℕ) (l : Leaf) : Type 0 where
   pub form : Form
   pub wants : next_of b.walk ≡ next.Wants form

@@ -1,4 +1,4 @@
--- What a decoder answers for all the bytes that it was fed.
+-- What a decoder returns for all the bytes that it was fed.
 use Rattle.std.specs.Prelude.{◌≡◌, ◌≢◌, ℕ, suc, ◌+◌, ◌<◌, ◌≤◌, List, [], ◌∷◌, ◌++◌, length, take}
 use Rattle.std.specs.Prelude.{Ok, Err, nat_lt, if◌then◌else◌, ◌⊎◌}
 use Rattle.scale_core.specs.Read.{Read, place, mode_len}
@@ -24,13 +24,13 @@ pub record Job : Type 0 where
   pub depth : ℕ
   pub bytes : ℕ
 
--- n bytes are enough for the fact, and fewer are not
+-- P holds for the first n bytes, and for no shorter front
 pub record IsShortest (P : List ℕ → Type 0) (input : List ℕ) (n : ℕ) : Type 0 where
   pub there : n ≤ length input
   pub holds : P (take n input)
   pub least : (k : ℕ) → k < n → ¬ P (take k input)
 
--- the front is refused for this reason at this place
+-- the input is rejected with this reason at this place
 abbrev pub FailsAt : Job → Refusal → ℕ → List ℕ → Type 0
 FailsAt j reason at input = (left : List ℕ) × Fails j.registry (suc j.depth) j.ty input reason left
     × (place input left ≡ at)
@@ -47,19 +47,19 @@ IsOutcome j input more taken = ((at : ℕ) × FailsAt j truncated at input) × (
 IsOutcome j input too_long taken = ((at : ℕ) × FailsAt j truncated at (take j.bytes input))
     × (j.bytes < length input) × (taken ≡ j.bytes)
 
--- what is encoded within the limits is decoded, and all of it is taken
+-- a value that is encoded within the limits is decoded, and all its bytes are taken
 abbrev pub EncodedIsDone : Type 0
 EncodedIsDone = (j : Job) (v : Tree) (b : List ℕ) → Val j.registry j.ty v b →
     levels v ≤ suc j.depth → length b ≤ j.bytes → IsOutcome j b (done v) (length b)
 
--- and there is no other outcome
+-- an input has no more than one outcome
 abbrev pub OneOutcome : Type 0
 OneOutcome = (j : Job) (input : List ℕ) (one two : Outcome) (n m : ℕ) → IsOutcome j input one n →
     IsOutcome j input two m → (one ≡ two) × (n ≡ m)
 
 -- ---- the same, computed
 
--- bytes are missing: more can come, or the limit is reached and a further byte is there
+-- bytes are missing: more may come, or the input is longer than the limit
 abbrev pub missing : Job → List ℕ → Outcome × ℕ
 missing j input = if nat_lt j.bytes (length input) then (too_long, j.bytes) else
     (more, length input)
@@ -79,34 +79,34 @@ answer j input (Err e) = refusal j input e.0 e.1
 unfoldable pub outcome_of : Job → List ℕ → Outcome × ℕ
 outcome_of j input = answer j input (value_at j.registry (suc j.depth) j.ty (take j.bytes input))
 
--- every input has an outcome, which is computed so, and no other
+-- every input has exactly one outcome, the computed one
 abbrev pub OutcomeIsComputed : Type 0
 OutcomeIsComputed = (j : Job) (input : List ℕ) →
     IsOutcome j input (outcome_of j input).0 (outcome_of j input).1
     × ((one : Outcome) (n : ℕ) → IsOutcome j input one n → outcome_of j input ≡ (one, n))
 
--- what is taken where a value is refused for good: the shortest front that is refused for this
--- reason at this place
+-- the bytes taken of an input that is rejected for good: the shortest front that is rejected with
+-- this reason at this place
 abbrev pub TakenIsShortest : Type 0
 TakenIsShortest = (j : Job) (reason : Refusal) (at : ℕ) (input : List ℕ) → reason ≢ truncated →
     FailsAt j reason at input →
     IsShortest (FailsAt j reason at) input (value_taken j.registry (suc j.depth) j.ty input)
 
--- once it is decided, further bytes don't change it
+-- once the outcome is decided, further bytes don't change it
 abbrev pub OutcomeIsKept : Type 0
 OutcomeIsKept = (j : Job) (input later : List ℕ) (one : Outcome) (n : ℕ) → one ≢ more →
     IsOutcome j input one n → IsOutcome j (input ++ later) one n
 
 -- ---- what is taken, by the fault alone
 
--- how long the compact is that stands at the front
+-- the length of the compact at the front
 abbrev pub compact_end : List ℕ → ℕ
 compact_end [] = 0
 compact_end (first ∷ rest) = mode_len first
 
--- by the reason, what stands from the fault's place on, the place, and what is taken: bytes are
--- missing at the end of the input, and a
--- text is taken to its end, which does not lie before the place
+-- how many bytes are taken, by the reason, the bytes from the fault's place on, and the place. The
+-- fault Truncated is at the end of the input. A text is taken to its end, which isn't before the
+-- place
 abbrev pub IsTakenBefore : Refusal → List ℕ → ℕ → ℕ → Type 0
 IsTakenBefore (basic scale.Truncated) left at taken = left ≡ []
 IsTakenBefore (basic scale.BadBool) left at taken = taken ≡ at + 1

@@ -21,7 +21,7 @@ reason_of no_finite_value = reason.NoFiniteValue
 reason_of bit_sequence = reason.BitSequence
 reason_of bad_compact = reason.BadCompact
 
--- what a walk that stops refuses
+-- the refusal of a walk that stops
 abbrev pub stop_refusal : StopReason → Refusal
 stop_refusal stop.TooDeep = too_deep
 stop_refusal stop.NoFiniteValue = no_finite_value

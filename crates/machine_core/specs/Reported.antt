@@ -1,4 +1,5 @@
--- Reading a value node by node: what is added in preorder before the reading ends, and how it ends.
+-- Reading a value node by node: which nodes are added in preorder before the reading ends, and how
+-- it ends.
 use Rattle.std.specs.Prelude.{◌≡◌, ℕ, zero, suc, List, [], ◌∷◌, ◌++◌, length, map, Option, Some}
 use Rattle.std.specs.Prelude.{None, Result, Ok, Err}
 use Rattle.scale_core.specs.Read.{Read, compact_at}
@@ -57,7 +58,7 @@ own_at (layout.sequence t) b = length_own t (compact_at target.U32 b)
 own_at (layout.array n t) b = Ok ((head.branch tree.list n, Some (times n t)), b)
 own_at f b = leaf_own (layout_at shallow f b)
 
--- the fault and the bytes from its place on, and the bytes from the node on that is refused
+-- the fault, the bytes from its place on, and the bytes from the rejected node on
 abbrev pub Fault : Type 0
 Fault = (Refusal × List ℕ) × List ℕ
 
@@ -74,7 +75,7 @@ added (reported xs end) = xs
 abbrev pub ending : Reported → Ending
 ending (reported xs end) = end
 
--- the same after these
+-- the same reading after these nodes
 abbrev pub after : List Entry → Reported → Reported
 after before (reported xs end) = reported (before ++ xs) end
 
@@ -106,18 +107,19 @@ abbrev pub own_reported : (ℕ → List ℕ → Reported) → ℕ → List ℕ �
 own_reported child t b (Ok x) = after (entry t x.0.0 ∷ []) (opened_reported child x.0.1 x.1)
 own_reported child t b (Err e) = reported [] (Err (e, b))
 
--- a value of type t, with room for so many levels
+-- a value of type t, with so many levels left for it
 unfoldable pub reported_at : List TypeInfo → ℕ → ℕ → List ℕ → Reported
 reported_at r zero t b = reported [] (Err ((too_deep, b), b))
 reported_at r (suc room) t b = own_reported (reported_at r room) t b (own_at (met_layout r t) b)
 
--- all that is still to be read, the innermost part first, which has this room
+-- everything that is still to be read, the innermost part first, with `room` levels left for its
+-- values
 unfoldable pub rest_reported : List TypeInfo → ℕ → List Part → List ℕ → Reported
 rest_reported r room [] b = reported [] (Ok b)
 rest_reported r room (p ∷ ps) b =
     then (part_reported (reported_at r room) p b) (rest_reported r (suc room) ps)
 
--- it is what the big-step reading says
+-- reading node by node agrees with reading the complete value
 abbrev pub Agrees : Read Refusal Tree → Reported → Type 0
 Agrees (Ok x) y = (shown (added y) ≡ preorder x.0) × (ending y ≡ Ok x.1)
 Agrees (Err e) y = (met : List ℕ) × (ending y ≡ Err (e, met))

@@ -1,4 +1,4 @@
--- How many bytes decide a refusal: those up to the byte that reports it, and with it.
+-- How many bytes decide a refusal: those up to and including the byte that reveals it.
 use Rattle.std.specs.Prelude.{ℕ, zero, suc, ◌+◌, List, [], ◌∷◌, Option, Some, None, Ok, Err}
 use Rattle.std.specs.Prelude.{if◌then◌else◌}
 use Rattle.scale_core.specs.Read.{Read, place, compact_at, is_too_long, mode_len}
@@ -18,23 +18,24 @@ use Rattle.grammar_core.specs.Reading.{ValueReader, value_at}
 use Rattle.grammar_core.specs.Runs.{run_length_at}
 use Rattle.grammar_core.specs.Ways.{Way, of_no_byte, of_width, of_compact, of_run, way_of}
 
--- what the first part takes, where it is refused; else its bytes, and what the parts after it
--- take
+-- how many bytes the first part takes if it is rejected; otherwise its bytes and what the parts
+-- after it take
 abbrev pub taken_after : {E X : Type 0} → List ℕ → Read E X → ℕ → (X × List ℕ → ℕ) → ℕ
 taken_after b (Ok x) own next = place b x.1 + next x
 taken_after b (Err e) own next = own
 
--- one byte reports that a compact is too long for its target; else it is there whole
+-- the first byte reveals that a compact is too long for its target; otherwise all its bytes are
+-- taken
 abbrev pub compact_taken : Target → List ℕ → ℕ
 compact_taken m [] = 0
 compact_taken m (first ∷ rest) = if is_too_long m first then 1 else mode_len first
 
--- where the length of a run is refused
+-- how many bytes are taken if the length of a run is rejected
 abbrev pub run_length_taken : RunKind → List ℕ → ℕ
 run_length_taken (kind.ByteArray n) b = 0
 run_length_taken _ b = compact_taken target.U32 b
 
--- a text is judged at its end
+-- a text is checked once all its bytes are there
 abbrev pub run_taken : RunKind → List ℕ → ℕ
 run_taken k b = taken_after b (run_length_at k b) (run_length_taken k b) (λ n. n.0)
 
@@ -57,7 +58,7 @@ abbrev pub arms_taken : (ℕ → ValueReader Tree) → (ℕ → List ℕ → ℕ
 arms_taken child taken arms [] = 0
 arms_taken child taken arms (index ∷ rest) = suc (arm_taken child taken (arm_of arms index) rest)
 
--- so many bytes are judged when all are there
+-- a value of fixed width is checked once all its bytes are there
 abbrev pub taken_by : Way → List ℕ → ℕ
 taken_by (of_no_byte l) b = 0
 taken_by (of_width k make fault) b = k
@@ -67,7 +68,7 @@ taken_by (of_run k) b = run_taken k b
 abbrev pub leaf_taken : Plain → List ℕ → ℕ
 leaf_taken p b = taken_by (way_of p) b
 
--- where a type is refused as it is met, no byte of it is taken
+-- if a type is rejected as soon as it is met, none of its bytes are taken
 unfoldable pub layout_taken : (ℕ → ValueReader Tree) → (ℕ → List ℕ → ℕ) → Layout → List ℕ → ℕ
 layout_taken child taken (layout.plain p) b = leaf_taken p b
 layout_taken child taken (layout.fields ts) b = all_taken child taken ts b
@@ -78,7 +79,7 @@ layout_taken child taken (layout.sequence t) b =
 layout_taken child taken (layout.array n t) b = times_taken child taken n t b
 layout_taken child taken _ b = 0
 
--- what is taken where a value of type t is refused
+-- how many bytes are taken if a value of type t is rejected
 unfoldable pub value_taken : List TypeInfo → ℕ → ℕ → List ℕ → ℕ
 value_taken r zero t b = 0
 value_taken r (suc room) t b =

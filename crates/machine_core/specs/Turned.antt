@@ -27,15 +27,16 @@ use Rattle.machine_core.specs.declared.turned.Stopped.TheVariants as stop
 use Rattle.machine_core.specs.declared.turned.Tried.{Tried}
 use Rattle.machine_core.specs.declared.turned.Tried.TheVariants as tried
 
--- what a turn did: it took so many bytes of the piece, or added a node, and goes on; or why no turn
--- follows
+-- what a turn did: it took so many bytes of the piece, or added a node, and goes on; or it stopped,
+-- for this reason
 abbrev pub Turned : Type 0
 Turned = Result ℕ Stopped
 
 abbrev pub types_in : Running → List TypeInfo
 types_in s = s.built.walk.types
 
--- the bytes c lead from one state to the next, whatever follows them; and frames and nodes are few
+-- the bytes c lead from one state to the next, whatever follows them; the new nodes bound the new
+-- frames
 pub record TurnLeads (r : List TypeInfo) (s s' : State) (c : List ℕ) : Type 0 where
   pub reports : (more : List ℕ) →
       after s.nodes (remain r s (c ++ more)) ≡ after s'.nodes (remain r s' more)
@@ -54,7 +55,8 @@ pub record IsSame (old new : Running) : Type 0 where
   pub limit : new.built.walk.limit ≡ old.built.walk.limit
   pub ty : new.built.ty ≡ old.built.ty
 
--- these bytes lead from one to the other, whatever follows them, and no node is given up
+-- these bytes lead from the old value in progress to the new one, whatever follows them, and no
+-- node is dropped
 pub record Moves (old new : Running) (bytes : List ℕ) : Type 0 where
   pub same : IsSame old new
   pub own : List ℕ
@@ -70,28 +72,27 @@ pub record Moves (old new : Running) (bytes : List ℕ) : Type 0 where
 abbrev pub left_to_do : Running → List ℕ → ℕ
 left_to_do s rest = to_go (types_in s) (state_of s.built) (held_of s ++ rest) + length rest
 
--- the next node's own bytes are not all there
+-- the next node's own bytes are incomplete
 pub record WantsBytes (s : Running) : Type 0 where
   pub form : Form
   pub next : next_of s.built.walk ≡ next.Wants form
   pub left : List ℕ
   pub short : own_at (next_layout s.built) (held_of s) ≡ Err (truncated, left)
 
--- the bytes that are held and these spell the next node
+-- the held bytes followed by these spell the next node
 abbrev pub KeepsNode : Running → List ℕ → Type 0
 KeepsNode s bytes = IsSpelled s.built (held_of s ++ bytes)
 
--- a text or a run of bytes is next, and the bytes that are held and these are its length and some
--- of its bytes, or none; these are not none
+-- a text or a run of bytes is next; the held bytes followed by these, at least one, are its length
+-- and perhaps some of its bytes
 abbrev pub KeepsRun : Running → List ℕ → Type 0
 KeepsRun s bytes = (k : RunKind) × (next_layout s.built ≡ layout.plain (layout.run k))
     × (1 ≤ length bytes)
     × ((n : ℕ) × (came : List ℕ) × (run_length_at k (held_of s ++ bytes) ≡ Ok (n, came))
     × (length came ≤ n))
 
--- memory is wanted, where rest is left of the piece: a value can stand next, and by the first bytes
--- of the rest its node is to be
--- added, which they spell, or bytes of a run are to be kept
+-- memory is needed, with `rest` left of the piece: a value may stand next, and the first bytes of
+-- `rest` complete its node, which is to be added, or are bytes of a run, which are to be kept
 pub record WantsMemory (s : Running) (rest : List ℕ) : Type 0 where
   pub form : Form
   pub next : next_of s.built.walk ≡ next.Wants form
@@ -100,7 +101,7 @@ pub record WantsMemory (s : Running) (rest : List ℕ) : Type 0 where
   pub is : rest ≡ bytes ++ later
   pub keeps : KeepsNode s bytes ⊎ KeepsRun s bytes
 
--- why no turn follows, where rest is left of the piece
+-- why no turn follows, with `rest` left of the piece
 abbrev pub EndsTurns : Running → List ℕ → Stopped → Type 0
 EndsTurns s rest stop.Finished =
     ((x : List ℕ) → remain (types_in s) (state_of s.built) x ≡ reported [] (Ok x))
@@ -114,14 +115,14 @@ EndsTurns s rest (stop.Refused held reported_reason at len) = let x = held_of s 
     × Decided (types_in s) (state_of s.built) x e left len × (held ≤ len)
 EndsTurns s rest stop.OutOfMemory = WantsMemory s rest
 
--- bytes are held, or a node is added and none are
+-- more bytes are held, or a node is added and no bytes are held
 abbrev pub Steps : Running → Running → List ℕ → Type 0
 Steps old new bytes = ((1 ≤ length bytes) × (state_of new.built ≡ state_of old.built)
     × (held_of new ≡ held_of old ++ bytes))
     ⊎ ((held_of new ≡ []) × TurnLeads (types_in old) (state_of old.built) (state_of new.built)
     (held_of old ++ bytes) × (length new.built.entries ≡ suc (length old.built.entries)))
 
--- what a turn does, by its step
+-- what a turn does, by its result
 abbrev pub StepReports : Running → Running → List ℕ → Turned → Type 0
 StepReports old new piece (Ok n) = (n ≤ length piece) × IsSame old new
     × Steps old new (take n piece)
@@ -130,15 +131,15 @@ StepReports old new piece (Err (stop.Refused held reported_reason at len)) =
 StepReports old new piece (Err stop.OutOfMemory) = WantsMemory old piece
 StepReports old new piece (Err s) = (new ≡ old) × EndsTurns old piece s
 
--- what stands after the turns end: what stood before the last one, but for a node that is refused
--- and an allocation that failed
+-- what stands after the turns end: the same as before the last one, unless a node was rejected or
+-- an allocation failed
 abbrev pub StandsAfter : Stopped → Running → Running → Type 0
 StandsAfter (stop.Refused held reported_reason at len) before new = Unit {0}
 StandsAfter stop.OutOfMemory before new = Unit {0}
 StandsAfter s before new = new ≡ before
 
--- what a turn does on a node that pieces cut, whose last bytes one may have: it adds the node, or
--- opens the run that is next, or nothing changes
+-- what a turn does on a node that is split across pieces, if this piece may complete it: it adds
+-- the node, opens the run that is next, or changes nothing
 abbrev pub CutReports : Running → Running → List ℕ → Tried → Type 0
 CutReports old new piece (tried.Added n) = StepReports old new piece (Ok n)
 CutReports old new piece tried.Untouched = new ≡ old
@@ -148,8 +149,8 @@ CutReports old new piece tried.OutOfMemory = WantsMemory old piece × (new ≡ o
 abbrev pub IsReady : Running → Type 0
 IsReady s = (s.carry ≡ []) × (s.built.run ≡ None)
 
--- what a turn does on a node whose own bytes a piece may have whole: it adds the node, or nothing
--- changes
+-- what a turn does on a node whose own bytes may lie whole in the piece: it adds the node, or
+-- changes nothing
 abbrev pub WholeReports : Running → Running → List ℕ → Tried → Type 0
 WholeReports old new piece (tried.Added n) = StepReports old new piece (Ok n) × IsReady new
 WholeReports old new piece tried.Untouched = new ≡ old
@@ -161,42 +162,40 @@ HasParts bytes.Arm = Unit {0}
 HasParts bytes.Sequence = Unit {0}
 HasParts _ = ⊥
 
--- what holds of every value in progress: a begun tree is built, no more nodes are open than the
--- depth limit lets in, and what
--- is held beside are bytes of the next node
+-- what holds of every value in progress: it is a begun tree, no more nodes are open than the depth
+-- limit allows, and any other held bytes belong to the next node
 pub record IsSound (s : Running) : Type 0 where
   pub begun : IsBegun s.built
   pub frames : length s.built.walk.frames ≤ s.built.walk.limit + 2
   pub carried : IsCarry s.built s.carry
   pub run_next : IsRunNext s.built s.carry s.built.run
 
--- what turns on a piece do, of which n bytes were taken
+-- what the turns on a piece do if they take n bytes of it
 abbrev pub FeedReports : Running → Running → List ℕ → ℕ → Stopped → Type 0
 FeedReports old new piece n s = (n ≤ length piece)
     × ((last : Running) × Moves old last (take n piece) × EndsTurns last (drop n piece) s
     × StandsAfter s last new × IsSound last)
 
--- what turns on a piece do that end at an allocation failure, where n bytes of it were taken: these
--- lead to a value in progress, which wants memory by the bytes after them
+-- the turns on a piece end at an allocation failure after they took n bytes of it: these lead to a
+-- value in progress, which needs memory for the bytes after them
 abbrev pub RunsOut : Running → List ℕ → ℕ → Type 0
 RunsOut old piece n = (n ≤ length piece)
     × ((last : Running) × Moves old last (take n piece) × WantsMemory last (drop n piece)
     × IsSound last)
 
--- the builder's loop has taken no turn where a turn of the decoder's added nothing
+-- if the decoder's turn stopped, the builder's loop has taken no turn
 abbrev pub KeepsTurns : Running → Running → Turned → Type 0
 KeepsTurns old new (Ok n) = Unit {0}
 KeepsTurns old new _ = new.built.turns ≡ old.built.turns
 
--- from one count of turns to the other there is one for each node that was added and one that
--- stopped, and beside these no more
--- than one for each byte that was taken
+-- between the two counts there is one turn for each node that was added and one that stopped, and
+-- at most one more for each byte that was taken
 abbrev pub FewTurns : Running → Running → ℕ → ℕ → ℕ → Type 0
 FewTurns old new n from to = (from + length new.built.entries + 1 ≤ to + length old.built.entries)
     × (to + length old.built.entries ≤ from + n + length new.built.entries + 1)
 
--- the same where nothing is left: what stood before the last turn is known, and that this one
--- closed nothing
+-- the same if nothing is left of the value: what stood before the last turn is known, and that turn
+-- closed no node
 pub record StopsShort (old new : Running) (piece : List ℕ) (n from to : ℕ) : Type 0 where
   pub within : n ≤ length piece
   pub last : Running
@@ -211,14 +210,14 @@ StopCounts old new piece from to n (stop.Refused held reported_reason at len) =
 StopCounts old new piece from to n stop.OutOfMemory = StopsShort old new piece n from to
 StopCounts old new piece from to n s = FewTurns old new n from to
 
--- a call that feeds a piece
+-- what a call that feeds a piece does
 pub record FeedTells (old new : Running) (piece : List ℕ) (from to : ℕ) (result : ℕ × Stopped)
     : Type 0 where
   pub reports : FeedReports old new piece result.0 result.1
   pub whole : is_complete old.built ≡ true → (result ≡ (0, stop.Finished)) × (new ≡ old)
   pub counts : StopCounts old new piece from to result.0 result.1
 
--- what stands in the turns of a call: the bytes and turns so far, and what they led to
+-- what holds between the turns of a call: the bytes and turns so far, and what they led to
 pub record CallSoFar (a b : Running) (piece : List ℕ) (at start from : ℕ) : Type 0 where
   pub inside : at ≤ length piece
   pub moves : Moves a b (take at piece)
@@ -238,8 +237,8 @@ GoesOn f old new (tried.Added n) = Awaits new f × (new.carry ≡ [])
     × (elements_after new.built.walk + 1 ≡ elements_after old.built.walk)
 GoesOn f old new _ = Unit {0}
 
--- turns on a piece, of which those before the last one took n bytes and did not stop, and what the
--- last one did
+-- turns on a piece: those before the last one took n bytes without stopping, and the last one did
+-- this
 pub record TurnsReport (old new : Running) (piece : List ℕ) (from to n : ℕ) (last : Turned)
     : Type 0 where
   pub before : Running
@@ -253,7 +252,7 @@ pub record TurnsReport (old new : Running) (piece : List ℕ) (from to n : ℕ) 
   pub whole : is_complete old.built ≡ true →
       (n ≡ 0) × (before ≡ old) × (last ≡ Err stop.Finished)
 
--- the same of turns on nodes whose own bytes a piece may have whole
+-- the same for turns on nodes whose own bytes may lie whole in the piece
 pub record WholeTurnsReport (old new : Running) (piece : List ℕ) (from to n : ℕ) (last : Tried)
     : Type 0 where
   pub before : Running
@@ -265,7 +264,7 @@ pub record WholeTurnsReport (old new : Running) (piece : List ℕ) (from to n : 
   pub reports : WholeReports before new (drop n piece) last
   pub whole : is_complete old.built ≡ true → (n ≡ 0) × (before ≡ old) × (last ≡ tried.Untouched)
 
--- what a turn did that took the next node's own bytes
+-- the result of a turn that took the next node's own bytes
 abbrev pub node_turned : Result (Unit {0}) NodeFault → ℕ → ℕ → ℕ → Turned
 node_turned (Ok u) held count len = Ok count
 node_turned (Err (fault.Refused reported_reason at)) held count len =
@@ -280,7 +279,7 @@ PieceReports old new piece (Ok n) = (n ≤ length piece) × IsSame old new
 PieceReports old new piece (Err stop.OutOfMemory) = WantsMemory old piece
 PieceReports old new piece (Err s) = ⊥
 
--- a turn that ends a run, after it took as many of the run's last bytes, whatever follows them
+-- a turn that ends a run, after it took the run's last `count` bytes, whatever follows them
 abbrev pub EndReports : Running → Running → ℕ → Turned → Type 0
 EndReports old new count (Ok n) = (n ≡ count) × IsSame old new × Steps old new []
 EndReports old new count (Err (stop.Refused held reported_reason at len)) =

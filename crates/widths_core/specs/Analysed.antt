@@ -1,4 +1,4 @@
--- What is found of a registry, and how often it was looked at.
+-- The result of analysing a registry, and how often its types and references were looked at.
 use Rattle.std.specs.Prelude.{◌≡◌, ℕ, ◌<◌, ◌≤◌, List, flat_map, length, reverse}
 use Rattle.registry_core.specs.declared.type_info.TypeInfo.{TypeInfo}
 use Rattle.graph_core.specs.declared.graph.Graph.{Graph}
@@ -13,22 +13,21 @@ use Rattle.widths_core.specs.declared.type_step.TypeStep.{TypeStep}
 use Rattle.widths_core.specs.Linking.{AreTypesLinked}
 use Rattle.widths_core.specs.Steps.{AreDrafts, IsTable}
 
--- these are the looks that were taken: each type was looked at once at least and twice at most; the
--- references were looked at in the definitions, all once and in the order of the registry's bytes,
--- and each once at most in a list
+-- each type was looked at once or twice; each reference was looked at once in its definition, in
+-- the order of the registry's bytes, and no more than once in a list
 pub record HasFewLooks (r : List TypeInfo) (l : Looks) : Type 0 where
   pub types : (t : ℕ) → times t l.opened.entries ≤ 2
   pub seen : (t : ℕ) → t < length r → 1 ≤ times t l.opened.entries
   pub read : reverse l.read.entries ≡ flat_map (λ i. references i.shape) r
   pub listed : (e : ℕ) → times e l.listed.entries ≤ 1
 
--- both looks at the types were taken, and this is what was made of them
+-- both passes over the types are done, and this is their result
 pub record IsLinkedWith (r : List TypeInfo) (x : Linked) (w : ℕ) (g : Graph) : Type 0 where
   pub linked : AreTypesLinked r x.counters.items g
   pub drafts : AreDrafts r (refs g) x.rows x.steps.items
   pub widest_is : w ≡ widest r
 
--- the table of a registry whose references are all positions, and the looks that were taken
+-- the table of a registry whose references are all positions, made with few looks
 pub record AreSettled (r : List TypeInfo) (rows : Rows) (steps : List TypeStep) (g : Graph) : Type 0
   where
     pub checked : IsChecked r

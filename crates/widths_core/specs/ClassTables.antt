@@ -1,5 +1,5 @@
--- Tables of targets and classes, with an entry for each type, and what follows for a type from
--- those of its parts.
+-- Tables of targets and classes with an entry for each type, and how the class of a type follows
+-- from those of its parts.
 use Rattle.std.specs.Prelude.{◌≡◌, ℕ, zero, suc, List, [], ◌∷◌, length, Bool, true, false, Option}
 use Rattle.std.specs.Prelude.{None, slice_index_or, if◌then◌else◌}
 use Rattle.std.specs.List.{list_any}
@@ -15,7 +15,7 @@ use Rattle.widths_core.specs.Arms.{live_arms}
 use Rattle.widths_core.specs.Targets.{target_of}
 use Rattle.widths_core.specs.Classes.{class_of, is_unit}
 
--- the target of type t in a table, where it has one
+-- the target of type t in a table, if it has one
 abbrev pub known_target : List (Option Target) → ℕ → Option Target
 known_target targets t = slice_index_or targets t None
 
@@ -23,11 +23,11 @@ known_target targets t = slice_index_or targets t None
 abbrev pub ReportsTargets : List TypeInfo → List (Option Target) → Type 0
 ReportsTargets r targets = (t : ℕ) → known_target targets t ≡ target_of r t
 
--- the class of type t in a table, where a type that is not there has no value
+-- the class of type t in a table; a type that is not in it has no value
 abbrev pub known_class : List Class → ℕ → Class
 known_class classes t = slice_index_or classes t class.NoValue
 
--- the class of a value that has a part of each class
+-- the class of a value with two parts of these classes
 abbrev pub joined : Class → Class → Class
 joined class.NoValue c = class.NoValue
 joined class.Empty c = c
@@ -44,18 +44,18 @@ has_value class.NoValue = false
 has_value class.Empty = true
 has_value class.Sized = true
 
--- some arm that counts has a value
+-- a variant takes bytes if an arm that is not shadowed has a value, and otherwise has no value
 abbrev pub class_of_arms : (ℕ → Class) → List Arm → Class
 class_of_arms below arms =
     if list_any (λ a. has_value (class_of_parts below (field_types a.fields))) (live_arms [] arms)
     then class.Sized else class.NoValue
 
--- a compact takes no bytes where what it wraps takes none
+-- a compact takes no bytes exactly if its target is the unit
 abbrev pub class_of_compact : Option Target → Class
 class_of_compact over = if is_unit over then class.Empty else class.Sized
 
--- the class of a type of this shape, with these targets, if the types that it refers to have the
--- classes that below says
+-- the class of a type of this shape, if the types that it refers to have these targets and the
+-- classes given by `below`
 abbrev pub class_step : (ℕ → Option Target) → (ℕ → Class) → TypeDef → Class
 class_step targets below (Def.Composite fs) = class_of_parts below (field_types fs)
 class_step targets below (Def.Variant arms) = class_of_arms below arms
@@ -67,7 +67,7 @@ class_step targets below (Def.Primitive p) = class.Sized
 class_step targets below (Def.Compact t) = class_of_compact (targets t.0)
 class_step targets below (Def.BitSequence store order) = class.Sized
 
--- the table has an entry for each type, its class
+-- the table has one entry for each type, the type's class
 abbrev pub ReportsClasses : List TypeInfo → List Class → Type 0
 ReportsClasses r classes = (length classes ≡ length r)
     × ((t : ℕ) → known_class classes t ≡ class_of r t)

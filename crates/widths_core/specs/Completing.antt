@@ -12,25 +12,25 @@ use Rattle.widths_core.specs.declared.type_step.TypeStep.{TypeStep}
 use Rattle.widths_core.specs.declared.type_step.TypeStep.TheVariants as step
 use Rattle.widths_core.specs.ClassTables.{has_value, known_class}
 
--- the step of a type that settles with this class, where it is another one than before
+-- the new step of a type that settles with this class, if it changes
 abbrev pub empty_step : Class → Option TypeStep
 empty_step class.NoValue = None
 empty_step class.Empty = Some step.Empty
 empty_step class.Sized = None
 
--- the step of a sequence of elements of this class, which are u8 itself or are not, where it is
--- another one than before
+-- the new step of a sequence with elements of this class, if it changes; `byte` says whether they
+-- are u8 itself
 abbrev pub element_step : Class → Bool → Option TypeStep
 element_step class.NoValue byte = if byte then Some step.Bytes else None
 element_step class.Empty byte = Some step.Count
 element_step class.Sized byte = if byte then Some step.Bytes else None
 
--- the step of an array of so many bytes, where this is the step of an array
+-- the step of an array of u8, if this is the step of an array
 abbrev pub of_bytes : TypeStep → Option TypeStep
 of_bytes (step.Array n t) = Some (step.ByteArray n)
 of_bytes _ = None
 
--- the step is that of u8 itself
+-- whether this is the step of u8 itself
 abbrev pub is_byte_step : TypeStep → Bool
 is_byte_step (step.Primitive P.U8) = true
 is_byte_step _ = false
@@ -40,14 +40,14 @@ abbrev pub without_value : TypeStep → TypeStep
 without_value (step.Arms from count) = step.NoArm from count
 without_value _ = step.NoValue
 
--- the step of an array that settles with this class, where it is another one than before
+-- the new step of an array that settles with this class, if it changes
 abbrev pub array_settled : Class → Bool → TypeStep → Option TypeStep
 array_settled class.NoValue byte s = None
 array_settled class.Empty byte s = Some step.Empty
 array_settled class.Sized byte s = if byte then of_bytes s else None
 
--- the step of an owner that settles with this class, where it is another one than before; its last
--- part, whose compact target this is, is u8 itself or is not
+-- the new step of an owner that settles with this class, if it changes; `last` is the target of a
+-- compact over its last part, and `byte` says whether that part is u8 itself
 abbrev pub settled_step : Kind → Class → Option Target → Bool → TypeStep → Option TypeStep
 settled_step kind.Idle c last byte s = empty_step c
 settled_step kind.Parts c last byte s = empty_step c
@@ -57,13 +57,12 @@ settled_step kind.Array c last byte s = array_settled c byte s
 settled_step kind.Sequence c last byte s = empty_step c
 settled_step (kind.Fixed f) c last byte s = empty_step c
 
--- the step of an owner whose element has settled with this class, where it is another one than
--- before
+-- the new step of an owner whose element has settled with this class, if it changes
 abbrev pub told_step : Kind → Class → Bool → Option TypeStep
 told_step kind.Sequence c byte = element_step c byte
 told_step _ c byte = None
 
--- this step, where there is one, is put at a place
+-- the steps with this one, if there is one, at place t
 abbrev pub written : List TypeStep → ℕ → Option TypeStep → List TypeStep
 written xs t None = xs
 written xs t (Some s) = slice_set xs t s
@@ -71,11 +70,11 @@ written xs t (Some s) = slice_set xs t s
 abbrev pub step_at : List TypeStep → ℕ → TypeStep
 step_at xs t = slice_index_or xs t step.NoValue
 
--- the step in the end of a type of this class
+-- the final step of a type of this class
 abbrev pub finished : Class → TypeStep → TypeStep
 finished c s = if has_value c then s else without_value s
 
--- the steps of the types that have no value say so
+-- ys are the final steps of all types
 pub record FinishesSteps (classes : List Class) (xs ys : List TypeStep) : Type 0 where
   pub count : length ys ≡ length xs
   pub at : (t : ℕ) (s : TypeStep) → slice_get xs t ≡ Some s →

@@ -1,4 +1,4 @@
--- What holds of the counters and tables, where some references were propagated.
+-- What holds of the counters and tables after some references were propagated.
 use Rattle.std.specs.Prelude.{◌≡◌, ℕ, ◌+◌, ◌<◌, List, [], ◌∷◌, length, Bool, true, false, Some}
 use Rattle.std.specs.Prelude.{None, slice_get}
 use Rattle.std.specs.Prelude.{◌&&◌, ◌==◌, slice_index, slice_index_or, if◌then◌else◌}
@@ -30,15 +30,15 @@ nothing = rule 0 kind.Idle []
 abbrev pub rule_at : List TypeInfo → ℕ → Rule
 rule_at r k = slice_index_or (rules r) k nothing
 
--- the type that reference e of a registry is to
+-- the type that reference e of a registry refers to
 abbrev pub to_at : List TypeInfo → ℕ → ℕ
 to_at r e = slice_index (all_parts (rules r)) e
 
--- the number of the rule that it is a part of
+-- the number of the rule that has reference e among its parts
 abbrev pub rule_number : List TypeInfo → ℕ → ℕ
 rule_number r e = slice_index (numbers_from 0 (rules r)) e
 
--- how many of these numbers, of references from e on, are k and of a reference that was not
+-- how many of the references from e on, with these rule numbers, belong to rule k and were not
 -- propagated
 abbrev pub waiting : ℕ → List ℕ → ℕ → List ℕ → ℕ
 waiting e [] k propagated = 0
@@ -64,18 +64,18 @@ settles kind.Array = true
 settles kind.Sequence = false
 settles (kind.Fixed f) = true
 
--- whether a counter of this kind tells its owner's step of an element
+-- whether a counter of this kind updates its owner's step when the element settles
 abbrev pub tells : Kind → Bool
 tells kind.Sequence = true
 tells _ = false
 
--- whether one of these references told the step of type t of its element
+-- whether one of these references updated the step of type t when its element settled
 abbrev pub told : List TypeInfo → List ℕ → ℕ → Bool
 told r propagated t = list_any (λ e. ((rule_at r (rule_number r e)).owner == t)
     && tells (rule_at r (rule_number r e)).kind) propagated
 
--- the step of a type of this shape and, so far, of this class, whose element told its step or not;
--- before either it was x
+-- the current step of a type of this shape, by its class so far and by whether its element has
+-- updated the step; at first it was x
 abbrev pub so_far : List TypeInfo → Class → Bool → TypeDef → TypeStep → TypeStep
 so_far r c known (Def.Composite fs) x = by_class c x x
 so_far r c known (Def.Variant arms) x = by_class c x x
@@ -87,15 +87,15 @@ so_far r c known (Def.Primitive p) x = by_class c x x
 so_far r c known (Def.Compact u) x = if has_value c then step.Compact (target_of r u.0) else x
 so_far r c known (Def.BitSequence store order) x = by_class c x x
 
--- the step of type t, whose definition is d, is as far as it can be
+-- the step of type t, whose definition is d, follows from what has settled so far
 abbrev pub IsStepSoFar : List TypeInfo → List ℕ → Progress → ℕ → TypeDef → Type 0
 IsStepSoFar r propagated s t d = (x : TypeStep)
     × IsDraft (references_of r) (IsRow (references_of r) s.rows) d x
     × (slice_get s.steps t
     ≡ Some (so_far r (known_class s.classes t) (told r propagated t) d x))
 
--- the counters count the references that were not propagated, and what was found of the types that
--- have settled is right
+-- the counters count the references that were not propagated, and what was found for the settled
+-- types is right
 pub record IsConsistent (r : List TypeInfo) (propagated : List ℕ) (s : Progress) : Type 0 where
   pub classes : length s.classes ≡ length r
   pub targets : length s.targets ≡ length r
@@ -116,7 +116,7 @@ pub record IsConsistent (r : List TypeInfo) (propagated : List ℕ) (s : Progres
   pub steps : length s.steps ≡ length r
   pub step : (t : ℕ) (d : TypeDef) → shape r t ≡ Some d → IsStepSoFar r propagated s t d
 
--- where all parts of a counter have settled, its owner has
+-- the owner of a counter has settled if all parts of the counter have
 pub record IsClosed (r : List TypeInfo) (s : Progress) : Type 0 where
   pub at : (k : ℕ) → settles (rule_at r k).kind ≡ true → (counter_at s k).left ≡ 0 →
       has_settled s (rule_at r k).owner ≡ true

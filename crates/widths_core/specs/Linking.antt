@@ -18,7 +18,7 @@ pub record AddsRules (news : List Rule) (cs ds : List Counter) (a b : Graph) : T
   pub counters : ds ≡ cs ++ map counter_of news
   pub reads : ReadsReferences a b (all_parts news) (numbers_from (length cs) news)
 
--- a type of this definition was linked, and this is its step before any type has settled
+-- a type with this definition was linked, and s is its step before any type has settled
 pub record LinksType (t : ℕ) (d : TypeDef) (cs ds : List Counter) (x y : Rows) (a b : Graph)
     (s : TypeStep) : Type 0 where
   pub adds : AddsRules (rules_of t d) cs ds a b
@@ -27,7 +27,7 @@ pub record LinksType (t : ℕ) (d : TypeDef) (cs ds : List Counter) (x y : Rows)
   pub step : IsDraft (refs b) (IsRow (refs b) y) d s
 
 -- all these types were read: their rules have counters, and their references are in the lists; each
--- was looked at twice at most and once at least
+-- type was looked at once or twice
 pub record AreTypesLinked (r : List TypeInfo) (cs : List Counter) (d : Graph) : Type 0 where
   pub linked : IsLinked d
   pub types : d.registry ≡ r

@@ -1,4 +1,4 @@
--- What is found so far, and what each step makes of it.
+-- What was found so far, and how each step changes it.
 use Rattle.std.specs.Prelude.{ℕ, ◌<◌, length, ◌-◌, List, ◌∷◌, [], ◌++◌, Bool, true, false, ◌||◌}
 use Rattle.std.specs.Prelude.{◌==◌, Option, Some, None, slice_index_or, slice_set, if◌then◌else◌}
 use Rattle.scale_core.specs.declared.compact.Target.{Target}
@@ -44,7 +44,7 @@ is_sized class.NoValue = false
 is_sized class.Empty = false
 is_sized class.Sized = true
 
--- this was found of type t, which settles unless it has; its step becomes this one, where there is
+-- this was found for type t, which settles unless it already has; its step becomes `o`, if there is
 -- one
 abbrev pub settled_as : Progress → ℕ → Found → Option TypeStep → Progress
 settled_as s t f o = if has_value (known_class s.classes t) then s else record {
@@ -62,8 +62,8 @@ settled_by s c None last byte = s
 settled_by s c (Some f) last byte = settled_as s c.owner f
     (settled_step c.kind f.class last byte (step_at s.steps c.owner))
 
--- all parts of this counter have settled, the last of them, which is u8 itself or is not, with this
--- target
+-- all parts of this counter have settled; `last` is the target of the last one, and `byte` says
+-- whether it is u8 itself
 abbrev pub completed : Progress → Counter → Option Target → Bool → Progress
 completed s c last byte = settled_by s c (outcome c.kind c.sized last) last byte
 
@@ -76,8 +76,8 @@ counter_after c part = record {
       c.sized || is_sized part;
 }
 
--- a counter counts a part of this class, which is u8 itself or is not, and the step of its owner
--- becomes what the part says of it
+-- counter k counts a part of this class, and the step of its owner is updated; `byte` says whether
+-- the part is u8 itself
 abbrev pub counted : Progress → ℕ → Counter → Class → Bool → Progress
 counted s k c part byte = record {
   counters = slice_set s.counters k c;
@@ -89,7 +89,7 @@ counted s k c part byte = record {
   rows = s.rows;
 }
 
--- a part of counter k has settled as this, and is u8 itself or is not
+-- a part of counter k has settled with this result; `byte` says whether it is u8 itself
 abbrev pub part_settled : Progress → ℕ → Found → Bool → Progress
 part_settled s k f byte = let c = counter_after (counter_at s k) f.class in
     let n = counted s k c f.class byte in

@@ -1,4 +1,4 @@
--- References are propagated: what was found of the type that one is to is counted by its counter.
+-- Propagating a reference: its counter counts what was found for the type that it refers to.
 use Rattle.std.specs.Prelude.{◌≡◌, ℕ, ◌+◌, ◌<◌, ◌≤◌, List, [], ◌∷◌, ◌++◌, length, take, true, false}
 use Rattle.std.specs.Prelude.{None, ◌==◌, if◌then◌else◌}
 use Rattle.registry_core.specs.declared.type_info.TypeInfo.{TypeInfo}
@@ -13,7 +13,7 @@ use Rattle.graph_core.specs.Graphs.{refs, numbers, IsLinked}
 use Rattle.widths_core.specs.Progress.{Progress}
 use Rattle.widths_core.specs.Consistent.{rule_at, to_at, has_settled, IsConsistent, IsClosed}
 
--- what had settled has settled, and more types come after it
+-- settled types stay settled, and more may follow them
 pub record Follows (s n : Progress) : Type 0 where
   pub keeps : (t : ℕ) → has_settled s t ≡ true → has_settled n t ≡ true
   pub more : List ℕ
@@ -26,13 +26,14 @@ pub record IsReady (r : List TypeInfo) (d : Graph) : Type 0 where
   pub read : refs d ≡ all_parts (rules r)
   pub counted : numbers d ≡ numbers_from 0 (rules r)
 
--- since then nothing but lists was looked at
+-- between the two graphs, only lists were looked at
 pub record Lists (a b : Graph) : Type 0 where
   pub types : b.registry ≡ a.registry
   pub opened : b.looks.opened.entries ≡ a.looks.opened.entries
   pub read : b.looks.read.entries ≡ a.looks.read.entries
 
 -- the counters are consistent with what was propagated, and each type whose parts have settled has
+-- settled
 pub record IsUpToDate (r : List TypeInfo) (d : Graph) (s : Progress) : Type 0 where
   pub ready : IsReady r d
   pub consistent : IsConsistent r d.looks.listed.entries s
@@ -54,7 +55,7 @@ pub record Propagates (r : List TypeInfo) (a b : Graph) (s n : Progress) (t : �
       times e b.looks.listed.entries
       ≡ times e a.looks.listed.entries + (if to_at r e == t then 1 else 0)
 
--- the references to the first types that have settled were propagated, once each
+-- the references to the first `done` settled types were propagated, once each
 pub record IsPropagatedTo (r : List TypeInfo) (d : Graph) (s : Progress) (done : ℕ) : Type 0 where
   pub steady : IsUpToDate r d s
   pub within : done ≤ length s.settled
@@ -73,7 +74,7 @@ pub record AreCompactsSettled (r : List TypeInfo) (s : Progress) : Type 0 where
   pub at : (k : ℕ) → k < length (rules r) → (rule_at r k).kind ≡ kind.Compact →
       has_settled s (rule_at r k).owner ≡ true
 
--- the references to all types that have settled were propagated
+-- the references to all settled types were propagated
 pub record PropagatesAll (r : List TypeInfo) (a b : Graph) (s n : Progress) (done : ℕ) : Type 0
   where
     pub propagated : IsPropagatedTo r b n done
@@ -81,7 +82,7 @@ pub record PropagatesAll (r : List TypeInfo) (a b : Graph) (s n : Progress) (don
     pub follows : Follows s n
     pub lists : Lists a b
 
--- nothing was propagated, and nothing has settled but what is right
+-- nothing was propagated, and whatever has settled is right
 pub record IsStart (r : List TypeInfo) (d : Graph) (s : Progress) : Type 0 where
   pub ready : IsReady r d
   pub listed : d.looks.listed.entries ≡ []

@@ -20,13 +20,13 @@ use Rattle.graph_core.specs.Types.{ids, field_types}
 use Rattle.widths_core.specs.Targets.{leads_primitive, target_from}
 use Rattle.widths_core.specs.ClassTables.{class_of_compact}
 
--- the class of a value of parts that all have values, where one takes bytes or none does
+-- the class of a type whose parts all have values, by whether one of them takes bytes
 abbrev pub class_by : Bool → Class
 class_by true = class.Sized
 class_by false = class.Empty
 
--- what is found of the owner, where a part takes bytes or none does, and a compact over the last
--- part has this target
+-- what is found for the owner, by whether a part takes bytes and by the target of a compact over
+-- the last part
 abbrev pub outcome : Kind → Bool → Option Target → Option Found
 outcome kind.Idle sized last = None
 outcome kind.Parts sized last = Some (record { class = class_by sized; target = None })
@@ -36,7 +36,7 @@ outcome kind.Sequence sized last = None
 outcome kind.Compact sized last = Some (record { class = class_of_compact last; target = None })
 outcome (kind.Fixed found) sized last = Some found
 
--- where these parts have settled, their owner does by its kind
+-- once these parts have settled, their owner settles according to the kind
 pub record Rule : Type 0 where
   pub owner : ℕ
   pub kind : Kind
@@ -61,13 +61,13 @@ found_of_primitive p = record {
 abbrev pub rule : ℕ → Kind → List ℕ → Rule
 rule t k ps = record { owner = t; kind = k; parts = ps }
 
--- the kind of a type of so many parts, one value of each in each of its values
+-- the kind of a composite or a tuple with so many parts
 abbrev pub kind_of_parts : ℕ → Kind
 kind_of_parts zero = kind.Fixed found_unit
 kind_of_parts (suc zero) = kind.Wrap
 kind_of_parts (suc (suc n)) = kind.Parts
 
--- an arm settles its variant, unless one of these has its index
+-- an arm settles its variant, unless its index is among `seen`
 abbrev pub arm_rules : ℕ → List ℕ → List Arm → List Rule
 arm_rules t seen [] = []
 arm_rules t seen (a ∷ arms) =
@@ -75,7 +75,7 @@ arm_rules t seen (a ∷ arms) =
     seen arms else rule t (kind.Fixed found_sized) (field_types a.fields) ∷ arm_rules t
     (a.index ∷ seen) arms
 
--- an array of at least one element settles as these do
+-- an array of at least one element settles when its element type does
 abbrev pub array_rules : ℕ → ℕ → List ℕ → List Rule
 array_rules t zero ps = rule t (kind.Fixed found_none) [] ∷ rule t kind.Idle ps ∷ []
 array_rules t (suc n) ps = rule t kind.Array ps ∷ []
@@ -91,7 +91,7 @@ rules_of t (Def.Primitive p) = rule t (kind.Fixed (found_of_primitive p)) [] ∷
 rules_of t (Def.Compact u) = rule t kind.Compact (u.0 ∷ []) ∷ []
 rules_of t (Def.BitSequence store order) = rule t (kind.Fixed found_sized) [] ∷ []
 
--- of types from position t on
+-- the rules of types from position t on
 abbrev pub rules_from : ℕ → List TypeInfo → List Rule
 rules_from t [] = []
 rules_from t (x ∷ r) = rules_of t x.shape ++ rules_from (t + 1) r
@@ -99,14 +99,14 @@ rules_from t (x ∷ r) = rules_of t x.shape ++ rules_from (t + 1) r
 abbrev pub rules : List TypeInfo → List Rule
 rules r = rules_from 0 r
 
--- the counter of a rule none of whose parts has settled
+-- the counter of a rule before any of its parts has settled
 abbrev pub counter_of : Rule → Counter
 counter_of x = record { owner = x.owner; kind = x.kind; left = length x.parts; sized = false }
 
 abbrev pub all_parts : List Rule → List ℕ
 all_parts xs = flat_map (λ x. x.parts) xs
 
--- the number of its rule for each part of rules from number s on
+-- for each part of these rules, the number of its rule, counted from s on
 abbrev pub numbers_from : ℕ → List Rule → List ℕ
 numbers_from s [] = []
 numbers_from s (x ∷ xs) = map (λ _. s) x.parts ++ numbers_from (s + 1) xs

@@ -1,5 +1,5 @@
--- What a type is made of, in a few bytes: its parts are a piece of the list of all references, its
--- arms a row by their index.
+-- What a type is made of, in a few bytes: its parts are a slice of the list of all references, its
+-- arms a row sorted by index.
 use Rattle.std.specs.Prelude.{◌≡◌, ℕ, ◌+◌, ◌<◌, ◌≤◌, List, length, take, drop, flat_map, Bool}
 use Rattle.std.specs.Prelude.{if◌then◌else◌, Option, Some, None, slice_get}
 use Rattle.registry_core.specs.declared.definition.Arm.{Arm}
@@ -27,12 +27,12 @@ use Rattle.widths_core.specs.Rows.{IsPaired, Lacks, Rises, arm_at_place, index_i
 abbrev pub references_of : List TypeInfo → List ℕ
 references_of r = flat_map (λ i. references i.shape) r
 
--- so many of these references from there on are these types
+-- the `count` references from place `from` on are these types
 pub record AreParts (refs : List ℕ) (from count : ℕ) (ts : List ℕ) : Type 0 where
   pub within : from + count ≤ length refs
   pub are : take count (drop from refs) ≡ ts
 
--- this is the step of the arm, where there is one
+-- the step of the arm, if there is one
 abbrev pub IsArm : List ℕ → Option ArmStep → Option (ℕ × Arm) → Type 0
 IsArm refs None None = Unit {0}
 IsArm refs (Some s) (Some x) = (s.position ≡ x.0)
@@ -40,8 +40,8 @@ IsArm refs (Some s) (Some x) = (s.position ≡ x.0)
 IsArm refs None (Some x) = ⊥
 IsArm refs (Some s) None = ⊥
 
--- the row of so many arms from there on has by ascending index the first arm of each index that an
--- arm has
+-- the row of `count` arms from place `from` on has the first arm with each index that occurs, in
+-- ascending order of the index
 pub record IsRow (refs : List ℕ) (rows : Rows) (from count : ℕ) (arms : List Arm) : Type 0 where
   pub within : from + count ≤ length rows.indexes.items
   pub rises : Rises rows.indexes.items from (from + count)
@@ -49,12 +49,12 @@ pub record IsRow (refs : List ℕ) (rows : Rows) (from count : ℕ) (arms : List
       IsArm refs (Some (arm_at_place rows k)) (arm_of arms (index_in rows k))
   pub none : (x : ℕ) → Lacks rows.indexes.items from (from + count) x → arm_of arms x ≡ None
 
--- this is the step of these parts, where they are among these references
+-- s is the step of these parts, which are a slice of these references
 abbrev pub ArePartsOf : List ℕ → List ℕ → TypeStep → Type 0
 ArePartsOf refs ts s = (from count : ℕ) × (s ≡ step.Parts from count) × AreParts refs from count ts
 
--- this is the step of a type of this shape before it or its parts have settled, where its parts are
--- among these references, and the row of a variant is as Row says
+-- s is the step of a type of this shape before it or its parts have settled; its parts are a slice
+-- of these references, and the row of a variant satisfies `Row`
 abbrev pub IsDraft : List ℕ → (ℕ → ℕ → List Arm → Type 0) → TypeDef → TypeStep → Type 0
 IsDraft refs Row (Def.Composite fs) s = ArePartsOf refs (field_types fs) s
 IsDraft refs Row (Def.Tuple ts) s = ArePartsOf refs (ids ts) s
@@ -66,7 +66,7 @@ IsDraft refs Row (Def.Primitive p) s = s ≡ step.Primitive p
 IsDraft refs Row (Def.Compact t) s = s ≡ step.Compact None
 IsDraft refs Row (Def.BitSequence store order) s = s ≡ step.BitSequence
 
--- each type has its step as it is before any type has settled
+-- the step of each type is as it is before any type has settled
 pub record AreDrafts (r : List TypeInfo) (refs : List ℕ) (rows : Rows)
     (steps : List TypeStep) : Type 0
   where
@@ -76,8 +76,8 @@ pub record AreDrafts (r : List TypeInfo) (refs : List ℕ) (rows : Rows)
         slice_get steps t ≡ Some s →
         IsDraft refs (IsRow refs rows) d s
 
--- one of these by the class of a type: the first where it has no value, and the second where it
--- takes bytes
+-- a step by the class of a type: the first if it has no value, `Empty` if it takes no bytes, and
+-- the second if it takes bytes
 abbrev pub by_class : Class → TypeStep → TypeStep → TypeStep
 by_class class.NoValue none sized = none
 by_class class.Empty none sized = step.Empty
@@ -93,8 +93,8 @@ sequence_step class.Sized byte t = if byte then step.Bytes else step.Sequence t
 abbrev pub array_step : Bool → ℕ → ℕ → TypeStep
 array_step byte n t = if byte then step.ByteArray n else step.Array n t
 
--- this is the step of a type of this class and shape, where its parts are among these references,
--- and the row of a variant is as Row says
+-- s is the step of a type of this class and shape; its parts are a slice of these references, and
+-- the row of a variant satisfies `Row`
 abbrev pub IsStep : List TypeInfo → List ℕ → (ℕ → ℕ → List Arm → Type 0) → Class → TypeDef →
     TypeStep →
     Type 0
@@ -113,7 +113,7 @@ IsStep r refs Row c (Def.Primitive p) s = s ≡ by_class c step.NoValue (step.Pr
 IsStep r refs Row c (Def.Compact t) s = s ≡ step.Compact (target_of r t.0)
 IsStep r refs Row c (Def.BitSequence store order) s = s ≡ by_class c step.NoValue step.BitSequence
 
--- these are the references, and the steps and rows over them
+-- refs are the references of the registry, and the steps and rows refer to them
 pub record IsTable (r : List TypeInfo) (refs : List ℕ) (rows : Rows)
     (steps : List TypeStep) : Type 0
   where
@@ -124,7 +124,7 @@ pub record IsTable (r : List TypeInfo) (refs : List ℕ) (rows : Rows)
         slice_get steps t ≡ Some s →
         IsStep r (references_of r) (IsRow (references_of r) rows) (class_of r t) d s
 
--- the step of type t, with no word of where its row is
+-- the step of type t, wherever its row is
 abbrev pub IsStepAt : List TypeInfo → ℕ → Option TypeStep → Type 0
 IsStepAt r t s = elim (shape r t) [
   | Some d ↦ (x : TypeStep) × (s ≡ Some x)
@@ -133,7 +133,7 @@ IsStepAt r t s = elim (shape r t) [
       s ≡ None
 ]
 
--- the class of a type of this step
+-- the class of a type with this step
 abbrev pub class_of_step : TypeStep → Class
 class_of_step (step.Compact m) = class_of_compact m
 class_of_step (step.NoArm from count) = class.NoValue
@@ -149,7 +149,7 @@ class_of_step step.Bytes = class.Sized
 class_of_step step.Count = class.Sized
 class_of_step step.BitSequence = class.Sized
 
--- the target of a compact of this step
+-- the target of a compact with this step
 abbrev pub compact_of_step : TypeStep → Option Target
 compact_of_step (step.Compact m) = m
 compact_of_step (step.NoArm from count) = None
@@ -165,7 +165,7 @@ compact_of_step step.Bytes = None
 compact_of_step step.Count = None
 compact_of_step step.BitSequence = None
 
--- where the row of a variant of this step is
+-- where the row of a variant with this step is
 abbrev pub row_of_step : TypeStep → Option Parts
 row_of_step (step.Compact m) = None
 row_of_step (step.NoArm from count) = Some (record { from = from; count = count })

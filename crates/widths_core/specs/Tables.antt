@@ -1,4 +1,4 @@
--- What is kept beside a registry that was checked.
+-- What is kept with a checked registry.
 use Rattle.std.specs.Prelude.{◌≡◌}
 use Rattle.widths_core.specs.declared.checked.Checked.TheInside.{Inside}
 use Rattle.graph_core.specs.References.{IsChecked}

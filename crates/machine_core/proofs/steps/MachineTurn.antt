@@ -25,7 +25,7 @@ use Rattle.machine_core.proofs.lists.Reports.{after-nil}
 use Rattle.machine_core.proofs.lists.MachineTurns.{IsFirstOf, each_first, times_first, own_leaf}
 use Rattle.machine_core.proofs.lists.MachineTurns.{own_opens}
 
--- what is next: the innermost open part, its next type, and the room for it
+-- what is next: the innermost open part, its next type, and the levels left below it
 pub record AtNext (b : Built) : Type 0 where
   pub ty : ℕ
   pub top : OpenPart

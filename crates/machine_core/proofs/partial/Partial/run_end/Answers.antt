@@ -14,7 +14,7 @@ use Rattle.machine_core.proofs.steps.OpenRuns.{end_whole, ended_running, ended_r
 use Rattle.machine_core.proofs.partial.Partial.run_end.Goals as goal
 use Rattle.std.specs.Prelude.{Ok}
 
--- the length that is told of a run that is open
+-- the length that is reported for an open run
 told_len : (len : ℕ) (run : Option Pieces) (t : Pieces) → run ≡ Some t →
     IfSome run (λ x. len ≡ x.len) → t.len ≡ len
 told_len len run t is h = sym (subst (λ (o : Option Pieces). IfSome o (λ x. len ≡ x.len)) is h)
