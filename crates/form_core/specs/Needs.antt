@@ -1,4 +1,4 @@
--- How many bytes a node has of its own, or how many decide that there is none, by its form and its
+-- How many bytes a node has itself, or how many decide that there is none, by its form and its
 -- first byte.
 use Rattle.std.specs.Prelude.{◌≡◌, ℕ, List, ◌∷◌, length, if◌then◌else◌}
 use Rattle.scale_core.specs.Read.{is_too_long, mode_len}
@@ -11,12 +11,11 @@ use Rattle.registry_core.specs.declared.primitive.Primitive.{Primitive}
 use Rattle.grammar_core.specs.declared.form.Form.{Form}
 use Rattle.grammar_core.specs.declared.form.Form.TheVariants as form
 
--- one byte reports that a compact is too long for its target, and else it names how long the
--- compact is
+-- 1 if the first byte shows that a compact is too long for its target, and otherwise its length
 abbrev pub compact_need : Target → ℕ → ℕ
 compact_need m first = if is_too_long m first then 1 else mode_len first
 
--- of a text or a run of bytes the length alone, where it has one in front
+-- for a text or a run of bytes, only the bytes of its length, if it has one
 abbrev pub kind_need : PrimitiveKind → ℕ → ℕ
 kind_need K.Bool first = 1
 kind_need K.Char first = 4
@@ -40,7 +39,7 @@ need form.Sequence first = compact_need target.U32 first
 need form.Bytes first = compact_need target.U32 first
 need form.Count first = compact_need target.U32 first
 
--- the forms of nodes that have a few bytes of their own, which are carried where a piece cuts them
+-- the forms of nodes with a few bytes, which are carried over if a piece ends within them
 abbrev pub HasBytes : Form → Type 0
 HasBytes form.Empty = ⊥
 HasBytes form.Fields = ⊥
@@ -66,13 +65,13 @@ NoRun form.Bytes = ⊥
 NoRun (form.ByteArray n) = ⊥
 NoRun _ = Unit {0}
 
--- as many as are needed, and no more
+-- as many bytes as are needed, and no more
 abbrev pub AreOwn : Form → List ℕ → Type 0
 AreOwn f own = (first : ℕ) × (rest : List ℕ) × (own ≡ first ∷ rest) × (length own ≡ need f first)
 
 abbrev pub IsFirst : ℕ → List ℕ → Type 0
 IsFirst first bytes = (rest : List ℕ) × (bytes ≡ first ∷ rest)
 
--- as many bytes as the node needs whose first these are
+-- the number of bytes that a node needs if its bytes begin with these
 abbrev pub IsNeeded : Form → ℕ → List ℕ → Type 0
 IsNeeded f len bytes = (first : ℕ) × IsFirst first bytes × (len ≡ need f first)

@@ -1,4 +1,4 @@
--- The forms of nodes with few bytes of their own, as forms.
+-- The forms of nodes with few bytes, `PlainForm` and `BytesForm`, as a `Form`.
 use Rattle.registry_core.specs.Kinds.{width_bytes}
 use Rattle.registry_core.specs.declared.kind.IntegerWidth.{IntegerWidth}
 use Rattle.registry_core.specs.declared.kind.IntegerWidth.TheVariants as width

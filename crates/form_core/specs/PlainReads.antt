@@ -1,4 +1,4 @@
--- A node without parts, read by its form off its own bytes.
+-- A node without parts, read from its bytes by its form.
 use Rattle.std.specs.Prelude.{◌≡◌, ℕ, List, Option, None, Result, Ok, Err}
 use Rattle.scale_core.specs.Read.{Read, place}
 use Rattle.scale_core.specs.declared.fault.Fault.{Fault}
@@ -12,7 +12,7 @@ use Rattle.node_core.specs.declared.leaf.Leaf.{Leaf}
 use Rattle.form_core.specs.NodeForms.{plain_layout}
 use Rattle.form_core.specs.declared.forms.PlainForm.{PlainForm}
 
--- a node's own bytes: the node, and what it opens
+-- a reading of a node: the node, and the parts that it opens
 abbrev pub Own : Type 0
 Own = Read Refusal (Head × Option Part)
 
@@ -20,13 +20,13 @@ abbrev pub leaf_own : Read Refusal Tree → Own
 leaf_own (Ok x) = Ok ((head_of x.0, None), x.1)
 leaf_own (Err e) = Err e
 
--- the answer is what is read on the front of the bytes
+-- the answer is what is read at the start of the bytes
 abbrev pub ReadsFront : {X : Type 0} → List ℕ → Result X Fault → Read Reason X → Type 0
 ReadsFront own (Ok x) read = (rest : List ℕ) × (read ≡ Ok (x, rest))
 ReadsFront own (Err f) read = (left : List ℕ) × (read ≡ Err (f.reason, left))
     × (f.at ≡ place own left)
 
--- the answer is what the layout reads on the front of the bytes
+-- the answer is what the layout reads at the start of the bytes
 abbrev pub ReadsPlain : PlainForm → List ℕ → Result Leaf Fault → Type 0
 ReadsPlain p own (Ok l) = (rest : List ℕ)
     × (leaf_own (leaf_at (plain_layout p) own) ≡ Ok ((leaf_head l, None), rest))

@@ -1,4 +1,4 @@
--- A text or a run of bytes that stands whole on the front of a piece.
+-- A text or a run of bytes that lies whole at the start of a piece.
 use Rattle.std.specs.Prelude.{◌≡◌, ◌<◌, ◌≤◌, ◌^◌, ℕ, List, length, drop, Ok}
 use Rattle.scale_core.specs.Read.{Read, ◌>>=◌, bytes_at}
 use Rattle.scale_core.specs.declared.fault.Reason.{Reason}
@@ -8,25 +8,25 @@ use Rattle.grammar_core.specs.Runs.{run_at, run_leaf, run_length_at}
 use Rattle.node_core.specs.Leaves.{leaf_head, FitsLeaf}
 use Rattle.node_core.specs.declared.leaf.Leaf.{Leaf}
 
--- the length of a run begins a piece, in so many bytes
+-- a piece begins with the length n of a run, in `count` bytes
 pub record IsLengthAtFront (k : RunKind) (piece : List ℕ) (n count : ℕ) : Type 0 where
   pub within : count ≤ length piece
   pub few : n < 2 ^ 32
   pub read : run_length_at k piece ≡ Ok (n, drop count piece)
 
--- the bytes of a run after its length, which may be no text yet
+-- the bytes of a run after its length, not yet checked to be UTF-8
 unfoldable pub run_bytes_at : RunKind → List ℕ → Read Reason (List ℕ)
 run_bytes_at k b = do
   n ← run_length_at k b
   bytes_at n.0 n.1
 
--- these bytes of a run begin a piece, with their length in so many
+-- a piece begins with the length of a run and these bytes of it, in `count` bytes together
 pub record IsAtFront (k : RunKind) (piece bytes : List ℕ) (count : ℕ) : Type 0 where
   pub few : length bytes < 2 ^ 32
   pub within : count ≤ length piece
   pub read : run_bytes_at k piece ≡ Ok (bytes, drop count piece)
 
--- a run of this kind stands whole on the front of a piece, with so many bytes, and the leaf is it
+-- a run of this kind lies whole at the start of a piece, in `count` bytes, and the leaf is that run
 pub record ReadsRun (k : RunKind) (piece : List ℕ) (l : Leaf) (count : ℕ) : Type 0 where
   pub bytes : List ℕ
   pub few : length bytes < 2 ^ 32

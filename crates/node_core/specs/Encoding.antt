@@ -1,4 +1,4 @@
--- What a value is in bytes, and how its nodes are written.
+-- The bytes of a value, and how its nodes are written.
 use Rattle.std.specs.Prelude.{◌≡◌, ℕ, ◌+◌, List, [], ◌++◌, Option, slice_range}
 use Rattle.scale_core.specs.Number.{AreBytes}
 use Rattle.registry_core.specs.declared.definition.TypeDef.{TypeDef}
@@ -10,17 +10,17 @@ use Rattle.node_core.specs.declared.node.Content.{Content}
 use Rattle.node_core.specs.declared.node.Content.TheVariants as is
 use Rattle.node_core.specs.declared.node.Node.{Node}
 
--- what a value is in bytes
+-- the bytes of a value
 abbrev pub encoding : Seen → List ℕ
 encoding s = spelled s.types s.ty s.tree
 
--- they are bytes, and spell the value
+-- these are bytes, and they spell the value
 abbrev pub IsEncoding : Seen → List ℕ → Type 0
 IsEncoding s b = AreBytes b × Val s.types s.ty s.tree b
 
 -- ---- how it is written
 
--- the bytes of a node as it is kept
+-- the bytes of a node in the form in which it is kept
 abbrev pub node_bytes : List TypeInfo → List ℕ → Node → List ℕ
 node_bytes r pool n = cell_bytes r (cell_shown pool n)
 
@@ -31,7 +31,7 @@ pool_bytes pool (is.Bytes len start) = slice_range pool start (start + len)
 pool_bytes pool (is.Wide start) = slice_range pool start (start + 32)
 pool_bytes pool _ = []
 
--- these bytes, and those in the pool after them, are the node's
+-- these bytes, followed by those in the pool, are the node's
 abbrev pub Starts : List ℕ → Option TypeDef → List ℕ → ℕ → Content → Type 0
 Starts front d pool n content =
     front ++ pool_bytes pool content ≡ own_bytes d (head_shown pool n content)

@@ -32,8 +32,7 @@ leaf_text_bytes (leaf.Text s) = length s.now
 leaf_text_bytes (leaf.Bytes s) = length s.now
 leaf_text_bytes _ = 0
 
--- a text or a run has a length that can be spelled, an integer fits its word, and a wide one has
--- 32 bytes
+-- a text or a run is below 2 ^ 32 bytes, an integer fits 128 bits, and a wide one has 32 bytes
 abbrev pub FitsLeaf : Leaf → Type 0
 FitsLeaf (leaf.Text s) = length s.now < 2 ^ 32
 FitsLeaf (leaf.Bytes s) = length s.now < 2 ^ 32
@@ -43,7 +42,7 @@ FitsLeaf (leaf.Signed z) = FitsSigned w128 z
 FitsLeaf (leaf.Wide b) = length b.now ≡ 32
 FitsLeaf _ = Unit {0}
 
--- the leaf is kept as this node, and the pool has grown by what the node has there
+-- the leaf is kept as this content, and the pool has grown by the bytes that it has there
 pub record IsLeafKept (l : Leaf) (old new : List ℕ) (content : Content) : Type 0 where
   pub more : List ℕ
   pub grown : new ≡ old ++ more
@@ -51,7 +50,7 @@ pub record IsLeafKept (l : Leaf) (old new : List ℕ) (content : Content) : Type
   pub inside : IsInPool new content
   pub kept : kept_bytes content ≡ length more
 
--- and it is the last of the nodes
+-- the same, and the leaf is the last of the nodes
 pub record IsAppended (ty : TypeId) (l : Leaf) (nodes : List Node) (pool : List ℕ)
     (new_nodes : List Node) (new_pool : List ℕ) : Type 0
   where
@@ -59,7 +58,7 @@ pub record IsAppended (ty : TypeId) (l : Leaf) (nodes : List Node) (pool : List 
     pub nodes_are : new_nodes ≡ nodes ++ record { ty = ty; children = 0; content = content } ∷ []
     pub kept : IsLeafKept l pool new_pool content
 
--- the node that an open run is when all its bytes are there
+-- the node that an open run becomes when all its bytes are there
 abbrev pub run_content_of : RunKind → ℕ → ℕ → Content
 run_content_of kind.Text len start = content.Text len start
 run_content_of _ len start = content.Bytes len start

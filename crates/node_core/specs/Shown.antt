@@ -24,7 +24,7 @@ pub record Seen : Type 0 where
   pub ty : ℕ
   pub tree : Tree
 
--- it is one by the grammar
+-- it is a value by the grammar
 abbrev pub IsValue : Seen → Type 0
 IsValue s = (b : List ℕ) × AreBytes b × Val s.types s.ty s.tree b
 
@@ -52,15 +52,15 @@ bytes_of _ = None
 
 -- ---- how it is kept
 
--- the integer of a word of sixteen bytes in two's complement
+-- the integer that a word of sixteen bytes stands for in two's complement
 abbrev pub signed_from : ℕ → ℤ
 signed_from n = if nat_lt (2 * n) (2 ^ 128) then pos n else neg_ℤ (pos (2 ^ 128 - n))
 
--- the number of the sixteen bytes at a place of the pool
+-- the number in the sixteen bytes at a place of the pool
 abbrev pub long_shown : List ℕ → ℕ → ℕ
 long_shown pool start = from_le_bytes w128 (slice_range pool start (start + 16))
 
--- a node by itself, with so many children and the bytes that it has in the pool
+-- a node by itself, with n children and its bytes in the pool
 abbrev pub head_shown : List ℕ → ℕ → Content → Head
 head_shown pool n is.Empty = head.leaf tree.unit
 head_shown pool n (is.Bool b) = head.leaf (tree.bool b)
@@ -81,15 +81,15 @@ head_shown pool n (is.Fields size) = head.branch tree.fields n
 head_shown pool n (is.Arm q size) = head.branch (tree.arm q) n
 head_shown pool n (is.List size) = head.branch tree.list n
 
--- how many nodes its subtree has: a leaf is one, and a node with parts reports it, 0 while it is
--- open
+-- how many nodes its subtree has: 1 for a leaf; a node with parts keeps the number, which is 0
+-- while it is open
 abbrev pub size_shown : Content → ℕ
 size_shown (is.Fields size) = size
 size_shown (is.Arm q size) = size
 size_shown (is.List size) = size
 size_shown _ = 1
 
--- a node with parts, of which its subtree has so many
+-- a node with parts, whose subtree has k nodes
 abbrev pub closed_as : Content → ℕ → Content
 closed_as (is.Fields size) k = is.Fields k
 closed_as (is.Arm q size) k = is.Arm q k
@@ -106,7 +106,7 @@ kept_bytes (is.LongSigned start) = 16
 kept_bytes (is.Wide start) = 32
 kept_bytes _ = 0
 
--- the same of all nodes
+-- the same for all nodes
 abbrev pub all_kept : List Node → ℕ
 all_kept [] = 0
 all_kept (n ∷ ns) = kept_bytes n.content + all_kept ns
@@ -145,13 +145,13 @@ type_shown (n ∷ ns) = n.ty.0
 abbrev pub seen : List TypeInfo → List ℕ → List Node → Seen
 seen types pool ns = record { types = types; ty = type_shown ns; tree = tree_shown pool ns }
 
--- the nodes are those of the value, and of nothing else
+-- the nodes are exactly those of the value
 pub record IsWhole (types : List TypeInfo) (pool : List ℕ) (ns : List Node) : Type 0 where
   pub nodes : cells_shown pool ns ≡ cells types (type_shown ns) (tree_shown pool ns)
   pub inside : AreInPool pool ns
   pub value : IsValue (seen types pool ns)
 
--- the values whose nodes these are, one after the other: each as long as its first node says
+-- the values that have these nodes, one after the other; the first node of each gives its size
 abbrev pub forest : List TypeInfo → List ℕ → ℕ → List Node → List Seen
 forest types pool zero ns = []
 forest types pool (suc k) [] = []
@@ -162,13 +162,13 @@ forest types pool (suc k) (n ∷ ns) =
 abbrev pub all_seen : List TypeInfo → List ℕ → List Node → List Seen
 all_seen types pool ns = forest types pool (length ns) ns
 
--- values of these types
+-- the trees are values of these types
 abbrev pub AreValues : List TypeInfo → Part → Trees → Type 0
 AreValues r p none = Unit {0}
 AreValues r p (and v vs) = IsValue (record { types = r; ty = child_type p; tree = v })
     × AreValues r (left_after p) vs
 
--- the nodes are those of values one after the other, and of nothing else
+-- the nodes are exactly those of values, one after the other
 pub record IsForest (types : List TypeInfo) (pool : List ℕ) (ns : List Node) : Type 0 where
   pub part : Part
   pub values : Trees

@@ -40,7 +40,7 @@ pool_bytes (head.leaf (tree.bytes s)) = s
 pool_bytes (head.leaf (tree.wide s)) = s
 pool_bytes _ = []
 
--- the two words of a node whose bytes begin at a place of the pool, and whose subtree has so many
+-- the two words of a node whose bytes begin at place `at` of the pool, and whose subtree has `size`
 -- nodes: the halves of a number; a place in the pool and a length; or the number of nodes
 abbrev pub low_word : ℕ → ℕ → Head → ℕ
 low_word at size (head.leaf tree.unit) = 0
@@ -75,7 +75,7 @@ record_of at c = record {
   high = high_word c.head;
 }
 
--- the records of nodes, the first of which has its bytes at this place
+-- the records of nodes whose bytes begin at this place of the pool
 abbrev pub records_from : ℕ → List Cell → List Record
 records_from at [] = []
 records_from at (c ∷ cs) = record_of at c ∷ records_from (at + length (pool_bytes c.head)) cs
@@ -90,15 +90,15 @@ nodes_of v = cells v.types v.ty v.tree
 
 -- ---- read back
 
--- the number whose halves these are
+-- the number that has these halves
 abbrev pub number_of : Record → ℕ
 number_of r = r.low + 2 ^ 64 * r.high
 
 abbrev pub range_of : List ℕ → Record → List ℕ
 range_of pool r = slice_range pool r.low (r.low + r.high)
 
--- the node that a record is: one whose numbers are in the record, one whose bytes are these of the
--- pool, or one with children
+-- the node of a record: one with its number in the record, one with its bytes in the pool, or one
+-- with children
 abbrev pub scalar_head : Record → Head
 scalar_head r =
     if r.kind == 0 then head.leaf tree.unit
@@ -127,11 +127,11 @@ head_of pool r =
     else if nat_lt r.kind 10 then pooled_head r.kind (range_of pool r)
     else branch_head r
 
--- the tree whose nodes the records are
+-- the tree of the nodes of these records
 abbrev pub tree_read : List ℕ → List Record → Tree
 tree_read pool rs = tree_of (map (head_of pool) rs)
 
--- the records of a value and its pool, read back, are its tree
+-- reading back the records and the pool of a value gives its tree
 abbrev pub RecordsAreTree : Type 0
 RecordsAreTree = (v : Seen) → IsValue v →
     tree_read (pool_of (nodes_of v)) (records_from 0 (nodes_of v)) ≡ v.tree

@@ -23,8 +23,8 @@ use Rattle.record_core.specs.declared.record.Record.{Record}
 use Rattle.record_core.specs.declared.replaying.RecordFault.{RecordFault}
 use Rattle.record_core.specs.declared.replaying.RecordFault.TheVariants as records
 
--- the fault of a record by itself: a number that is out of range, a range that is not in the pool,
--- bytes that are no text, or a kind that there is not
+-- the fault of a record by itself: a number out of range, a range outside the pool, bytes that
+-- aren't UTF-8, or an unknown kind
 abbrev pub scalar_fault : Record → Option BuildFault
 scalar_fault r =
     if r.kind == 1 then in_range (not (nat_lt 1 r.low))
@@ -49,7 +49,7 @@ own_fault pool r =
     else if nat_lt r.kind 13 then None
     else wrong
 
--- what the builder says of the node
+-- the builder's fault for the node, if any
 abbrev pub judged_node : Head → Built → Option BuildFault
 judged_node (head.leaf tree.unit) b = judged suits_empty b
 judged_node (head.leaf (tree.bool x)) b = judged suits_bool b
@@ -65,7 +65,7 @@ judged_node (head.branch tree.fields n) b = judged (suits_fields_of b n) b
 judged_node (head.branch (tree.arm q) n) b = judged_arm_at b q n
 judged_node (head.branch tree.list n) b = judged (suits_list n) b
 
--- its own fault is the first
+-- the record's own fault, or else the builder's
 abbrev pub first_fault : Option BuildFault → Option BuildFault → Option BuildFault
 first_fault (Some f) later = Some f
 first_fault None later = later
@@ -85,7 +85,7 @@ with_record pool r b = with_node (head_of pool r) b
 
 -- ---- all records, one after the other
 
--- no node yet of a value of this type
+-- a value of this type that has no nodes yet
 abbrev pub start_with : List TypeInfo → ℕ → ℕ → Built
 start_with types root depth = record {
   ty = root;
@@ -104,13 +104,13 @@ abbrev pub unless_fault : Option BuildFault → Result Built (ℕ × BuildFault)
 unless_fault None later = one_later later
 unless_fault (Some f) later = Err (0, f)
 
--- the value with the nodes of all records, or the first that is rejected, by its position
+-- the value with the nodes of all records, or the position and fault of the first that is rejected
 abbrev pub replay : List ℕ → List Record → Built → Result Built (ℕ × BuildFault)
 replay pool [] b = Ok b
 replay pool (r ∷ rs) b =
     unless_fault (record_fault pool r b) (replay pool rs (with_record pool r b))
 
--- the value, if no node is missing; what is missing is reported at the end of the records
+-- the value if no node is missing, and otherwise a fault at the end of the records
 abbrev pub ended_at : ℕ → Bool → Built → Result Seen (ℕ × BuildFault)
 ended_at n true b = Ok (finished b)
 ended_at n false b = Err (n, fault.UnfinishedValue)

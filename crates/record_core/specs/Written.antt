@@ -5,7 +5,7 @@ use Rattle.record_core.specs.Records.{pool_of, records_from}
 use Rattle.record_core.specs.declared.record.Record.{Record}
 use Rattle.record_core.specs.declared.writing.Room.{Room}
 
--- so many records and bytes
+-- how many records and bytes of the pool there are
 abbrev pub room_of : List Cell → Room
 room_of cs = record { records = length cs; pool = length (pool_of cs) }
 
@@ -13,15 +13,15 @@ room_of cs = record { records = length cs; pool = length (pool_of cs) }
 abbrev pub Fits : List Cell → List Record → List ℕ → Type 0
 Fits cs records pool = (length cs ≤ length records) × (length (pool_of cs) ≤ length pool)
 
--- one of them has no room
+-- one of them has too little room
 abbrev pub LacksRoom : List Cell → List Record → List ℕ → Type 0
 LacksRoom cs records pool = (length records < length cs) ⊎ (length pool < length (pool_of cs))
 
--- these stand in front, and what is after them stays
+-- these are written at the start, and what is after them is unchanged
 abbrev pub StandsIn : {X : Type 0} → List X → List X → List X → Type 0
 StandsIn xs old new = new ≡ xs ++ drop (length xs) old
 
--- both stand in front; or there is no room, and nothing is written
+-- both are written at the start; or there is no room, and nothing is written
 abbrev pub WritesNodes : List Cell → List Record → List Record → List ℕ → List ℕ → Type 0
 WritesNodes cs records new_records pool new_pool =
     (Fits cs records pool × StandsIn (records_from 0 cs) records new_records

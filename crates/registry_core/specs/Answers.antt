@@ -1,4 +1,4 @@
--- What reading a whole registry answers, beside what reading gives.
+-- What the readers of a complete registry return, compared with the reading.
 use Rattle.std.specs.Prelude.{◌≡◌, ◌≢◌, ℕ, ◌≤◌, ◌⊎◌, List, length, drop, Result, Ok, Err}
 use Rattle.scale_core.specs.Read.{Read, place}
 use Rattle.registry_core.specs.declared.fault.RegistryFault.{RegistryFault}
@@ -7,7 +7,7 @@ use Rattle.registry_core.specs.declared.fault.RegistryReason.TheVariants.{OutOfM
 use Rattle.registry_core.specs.declared.type_info.TypeInfo.{TypeInfo}
 use Rattle.registry_core.specs.declared.version.Version.{Version}
 
--- the answer where an allocation failed
+-- the answer if an allocation failed
 abbrev pub out_of_memory : RegistryFault
 out_of_memory = record { reason = OutOfMemory; at = 0 }
 

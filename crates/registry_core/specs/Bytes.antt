@@ -1,4 +1,4 @@
--- The bytes that stand for themselves: those of the primitives, and the prefix of metadata.
+-- The bytes that are fixed: those of the primitives, and the prefix of metadata.
 use Rattle.std.specs.Prelude.{ℕ, List, [], ◌∷◌, Option, Some, None, ◌==◌, if◌then◌else◌}
 use Rattle.registry_core.specs.declared.primitive.Primitive.{Primitive}
 use Rattle.registry_core.specs.declared.primitive.Primitive.TheVariants.{Bool, Char, Str, U8, U16}
@@ -39,6 +39,6 @@ abbrev pub version_byte : Version → ℕ
 version_byte V14 = 14
 version_byte V15 = 15
 
--- the version of a byte, where it is one that is read
+-- the version that a byte stands for; `None` unless it is 14 or 15
 abbrev pub version_of : ℕ → Option Version
 version_of b = if b == 14 then Some V14 else if b == 15 then Some V15 else None

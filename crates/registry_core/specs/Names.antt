@@ -1,4 +1,4 @@
--- What the faults of a registry are printed as.
+-- How the faults of a registry are printed.
 use Rattle.std.specs.Prelude.{ℕ, List, ◌++◌, codes, decimal}
 use Rattle.registry_core.specs.declared.fault.RegistryFault.{RegistryFault}
 use Rattle.registry_core.specs.declared.fault.RegistryReason.{RegistryReason}

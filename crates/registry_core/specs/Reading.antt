@@ -1,4 +1,4 @@
--- A registry from left to right, with the first fault that is met.
+-- Reading a registry from left to right, up to the first fault.
 use Rattle.std.specs.Prelude.{ℕ, zero, suc, ◌+◌, List, [], ◌∷◌, Option, Some, None, Ok, Err, ◌==◌}
 use Rattle.std.specs.Prelude.{slice_get, if◌then◌else◌}
 use Rattle.scale_core.specs.Read.{Read, ◌>>=◌, compact_at, text_at, number_at}
@@ -18,9 +18,8 @@ use Rattle.registry_core.specs.declared.fault.RegistryReason.TheVariants as regi
 use Rattle.registry_core.specs.declared.version.Version.{Version}
 use Rattle.registry_core.specs.Bytes.{primitives, magic, version_of}
 
--- why a length, an id or a text is refused, as a reason of the registry; none is refused for the
--- last two, as the clauses
--- of `read_compact` and `read_text` say
+-- why a length, an id or a text is rejected, as a reason of the registry; the last two don't occur,
+-- by the contracts of `read_compact` and `read_text`
 abbrev pub registry_reason_of : Reason → RegistryReason
 registry_reason_of scale.Truncated = registry.Truncated
 registry_reason_of scale.BadUtf8 = registry.BadUtf8
@@ -108,7 +107,7 @@ arm_read_at bytes = do
 
 -- ---- definitions
 
--- a value that a byte names, or the refusal of the byte
+-- the value that a byte names, or this reason if it names none
 abbrev pub named : {X : Type 0} → RegistryReason → List ℕ → Option X → List ℕ →
     Read RegistryReason X
 named reason at (Some x) rest = Ok (x, rest)
@@ -143,7 +142,7 @@ arms_read_at = sequence_at arm_read_at
 unfoldable pub type_ids_at : Reader (List TypeId)
 type_ids_at = sequence_at type_id_at
 
--- what follows a definition's byte, in the order of these bytes
+-- the readers of what follows a definition's first byte, in the order of that byte
 abbrev pub definitions : List (Reader TypeDef)
 definitions = as_definition def.Composite fields_at
     ∷ as_definition def.Variant arms_read_at
@@ -155,7 +154,7 @@ definitions = as_definition def.Composite fields_at
     ∷ bit_sequence_at
     ∷ []
 
--- the i-th of the list, or the other
+-- the element at position i, or `other` if there is none
 abbrev pub pick : {X : Type 0} → List X → ℕ → X → X
 pick [] i other = other
 pick (x ∷ xs) zero other = x
@@ -179,7 +178,7 @@ type_info_at bytes = do
   docs ← texts_at shape.1
   Ok (record { path = path.0; params = params.0; shape = shape.0; docs = docs.0 }, docs.1)
 
--- an id, which has to be i
+-- an id, which must be i
 abbrev pub id_at : ℕ → Reader ℕ
 id_at i bytes = do
   id ← length_at bytes
@@ -201,7 +200,7 @@ registry_at bytes = do
 
 -- ---- the prefix of metadata
 
--- this letter, or the refusal of another
+-- this letter, or `NotMetadata` if it is another
 abbrev pub letter_at : ℕ → Reader (Unit {0})
 letter_at letter bytes = do
   b ← byte_at bytes
@@ -214,13 +213,13 @@ letters_at (letter ∷ letters) bytes = do
   first ← letter_at letter bytes
   letters_at letters first.1
 
--- the version that a byte reports
+-- the version that a byte stands for
 abbrev pub version_at : Reader Version
 version_at bytes = do
   b ← byte_at bytes
   named registry.WrongVersion bytes (version_of b.0) b.1
 
--- the letters, and the version after them
+-- the letters `meta`, and the version after them
 unfoldable pub prefix_at : Reader Version
 prefix_at bytes = do
   letters ← letters_at magic bytes

@@ -24,16 +24,16 @@ option_bytes = 0x08 ∷ 0x00 ∷ 0x00 ∷ 0x00 ∷ 0x05 ∷ 0x05 ∷ 0x00 ∷ 0x
     ∷ 0x08 ∷ 0x10 ∷ 0x4e ∷ 0x6f ∷ 0x6e ∷ 0x65 ∷ 0x00 ∷ 0x00 ∷ 0x00 ∷ 0x10 ∷ 0x53 ∷ 0x6f ∷ 0x6d ∷
     0x65 ∷ 0x04 ∷ 0x00 ∷ 0x00 ∷ 0x01 ∷ 0x04 ∷ 0x54 ∷ 0x00 ∷ 0x01 ∷ 0x00 ∷ 0x00 ∷ []
 
--- a tuple of the type before it twice, after its position
+-- a tuple that has the type before it twice, after its position
 abbrev pub pair_bytes : ℕ → List ℕ
 pair_bytes i = 4 * (i + 1) ∷ 0 ∷ 0 ∷ 4 ∷ 8 ∷ 4 * i ∷ 4 * i ∷ 0 ∷ []
 
--- n such tuples, from this position on
+-- n of these tuples, from this position on
 abbrev pub pairs_bytes : ℕ → ℕ → List ℕ
 pairs_bytes zero i = []
 pairs_bytes (suc n) i = pair_bytes i ++ pairs_bytes n (i + 1)
 
--- a unit, and forty tuples, each of the one before it twice
+-- a unit, and forty tuples, each of which has the type before it twice
 abbrev pub nested_bytes : List ℕ
 nested_bytes = 0xa4 ∷ 0 ∷ 0 ∷ 0 ∷ 4 ∷ 0 ∷ 0 ∷ pairs_bytes 40 0
 
@@ -42,7 +42,7 @@ abbrev pub again : Read RegistryReason (List TypeInfo) → List ℕ
 again (Ok x) = spelling x.0 ++ x.1
 again (Err e) = []
 
--- registries that are read: a u8, two types of which one has a parameter, and many that are nested
+-- registries that are read: a u8; a u32 and the option of it; and many nested tuples
 pub record ReadRows : Type 0 where
   pub byte_is_read : registry_at (0x04 ∷ 0x00 ∷ 0x00 ∷ 0x00 ∷ 0x05 ∷ 0x03 ∷ 0x00 ∷ [])
       ≡ Ok (bare (def.Primitive U8) ∷ [], [])
@@ -50,7 +50,7 @@ pub record ReadRows : Type 0 where
   pub nested_are_short : length nested_bytes ≡ 327
   pub nested_are_spelled_again : again (registry_at nested_bytes) ≡ nested_bytes
 
--- registries that are refused, each at its first fault
+-- registries that are rejected, each at its first fault
 pub record FaultRows : Type 0 where
   pub id_is_refused_at_its_first_byte : registry_at
       (0x04 ∷ 0x04 ∷ 0x00 ∷ 0x00 ∷ 0x05 ∷ 0x03 ∷ 0x00 ∷ [])
@@ -62,7 +62,7 @@ pub record FaultRows : Type 0 where
   pub length_claims_too_many_bytes : registry_at (0x07 ∷ 0x00 ∷ 0x00 ∷ 0x00 ∷ 0x00 ∷ 0x00 ∷ [])
       ≡ Err (CompactTooLarge, 0x07 ∷ 0x00 ∷ 0x00 ∷ 0x00 ∷ 0x00 ∷ 0x00 ∷ [])
 
--- after the prefix of metadata: what follows is left, and another letter or version is refused
+-- metadata: the bytes after the registry are left, and another letter or version is rejected
 pub record MetadataRows : Type 0 where
   pub fourteen_is_read : metadata_at
       (0x6d ∷ 0x65 ∷ 0x74 ∷ 0x61 ∷ 0x0e ∷ 0x04 ∷ 0x00 ∷ 0x00 ∷ 0x00 ∷ 0x05 ∷ 0x03 ∷ 0x00 ∷ 0xff ∷

@@ -1,5 +1,5 @@
--- Where a registry is refused, told by splits of its bytes: parts that are spelled stand in front,
--- and the part after them is refused.
+-- How a registry is rejected, by splits of its bytes: parts that have a spelling come first, and
+-- the part after them is rejected.
 use Rattle.std.specs.Prelude.{◌≡◌, ◌≢◌, ◌⊎◌, ℕ, ◌+◌, ◌<◌, ◌^◌, List, [], ◌∷◌, ◌++◌, length, drop}
 use Rattle.std.specs.Prelude.{Err, None, false, flat_map}
 use Rattle.std.specs.List.{AllByRecursion}
@@ -20,25 +20,25 @@ use Rattle.registry_core.specs.Reading.{type_id_at, type_ids_at, param_at, param
 use Rattle.registry_core.specs.Reading.{fields_at, arm_read_at, arms_read_at}
 use Rattle.registry_core.specs.Reading.{definition_at, type_info_at, registry_at, metadata_at}
 
--- of which bytes, why, and with which bytes from the place on a part is refused
+-- a way to reject bytes: the bytes, the reason, and the bytes from the fault's place on
 abbrev pub Refusals : Type 1
 Refusals = List ℕ → RegistryReason → List ℕ → Type 0
 
--- this part is refused
+-- this part is rejected
 abbrev pub Fails : {X : Type 0} → Reader X → Refusals
 Fails part b why left = part b ≡ Err (why, left)
 
--- the first part is refused, or it stands in front, and what comes after it is refused
+-- the first part is rejected, or it is there and what follows it is rejected
 abbrev pub Then : {X : Type 0} → (X → Type 0) → (X → List ℕ) → Reader X → (X → Refusals) → Refusals
 Then {X = X} Fits spell part Behind b why left = Fails part b why left
     ⊎ ((x : X) × (c : List ℕ) × Fits x × (b ≡ spell x ++ c) × Behind x c why left)
 
--- fewer than n elements stand in front, and the next one is refused
+-- fewer than n elements come first, and the next one is rejected
 abbrev pub NextOf : {X : Type 0} → (X → Type 0) → (X → List ℕ) → Reader X → ℕ → Refusals
 NextOf {X = X} Fits spell part n b why left = (xs : List X) × (c : List ℕ) × (length xs < n)
     × AllByRecursion Fits xs × (b ≡ flat_map spell xs ++ c) × Fails part c why left
 
--- the length is refused, or it stands in front, and one of so many elements is refused
+-- the length is rejected, or it is there and one of so many elements is rejected
 abbrev pub OneOf : {X : Type 0} → (X → Type 0) → (X → List ℕ) → Reader X → Refusals
 OneOf Fits spell part = Then (λ n. n < 2 ^ 32) compact length_at (λ n. NextOf Fits spell part n)
 
@@ -46,52 +46,53 @@ OneOf Fits spell part = Then (λ n. n < 2 ^ 32) compact length_at (λ n. NextOf 
 abbrev pub EndsBefore : ℕ → Refusals
 EndsBefore n b why left = (length b < n) × (why ≡ registry.Truncated) × (left ≡ [])
 
--- n bytes are there, and are no text: the place is past the longest front that is one
+-- n bytes are there but aren't UTF-8: the fault's place is after their longest valid front
 abbrev pub IsNoText : ℕ → Refusals
 IsNoText n b why left = (s c : List ℕ) × (b ≡ s ++ c) × (length s ≡ n) × (is_utf8 s ≡ false)
     × (why ≡ registry.BadUtf8) × (left ≡ drop (utf8_valid_len s) b)
 
--- the byte in front is one of these, and refused for this reason
+-- the first byte is one of these, and is rejected with this reason
 abbrev pub IsByte : (ℕ → Type 0) → RegistryReason → Refusals
 IsByte P reason b why left = (x : ℕ) × (c : List ℕ) × (b ≡ x ∷ c) × P x × (why ≡ reason)
     × (left ≡ b)
 
--- the byte x is in front, and what follows is refused so
+-- the first byte is x, and what follows is rejected in this way
 abbrev pub Behind : ℕ → Refusals → Refusals
 Behind x Rest b why left = (c : List ℕ) × (b ≡ x ∷ c) × Rest c why left
 
--- an option is refused: there is no byte, the byte is neither 0 nor 1, or the part after 1 is
+-- an option is rejected: it has no byte, its byte is neither 0 nor 1, or the part after 1 is
+-- rejected
 abbrev pub OptionFails : {X : Type 0} → Reader X → Refusals
 OptionFails part b why left = EndsBefore 1 b why left
     ⊎ (IsByte (λ x. 1 < x) registry.BadOption b why left ⊎ Behind 1 (Fails part) b why left)
 
--- a type's id is refused, or it is another than its position, or the type after it is refused
+-- a type's id is rejected, or it differs from the type's position, or the type after it is rejected
 abbrev pub PlacedFails : ℕ → Refusals
 PlacedFails i b why left = Fails length_at b why left
     ⊎ ((j : ℕ) × (c : List ℕ) × (j < 2 ^ 32) × (b ≡ compact j ++ c)
     × (((j ≢ i) × (why ≡ registry.IdOutOfPlace) × (left ≡ b))
     ⊎ ((j ≡ i) × Fails type_info_at c why left)))
 
--- fewer than n types stand in front from position i on, and the next is refused at its position
+-- fewer than n types come first, from position i on, and the next one is rejected
 abbrev pub NextType : ℕ → ℕ → Refusals
 NextType i n b why left = (ts : List TypeInfo) × (c : List ℕ) × (length ts < n)
     × AllByRecursion FitsType ts × (b ≡ types_from i ts ++ c)
     × PlacedFails (i + length ts) c why left
 
--- one of the letters is missing or another
+-- one of the letters is missing or wrong
 abbrev pub LetterFails : List ℕ → Refusals
 LetterFails letters b why left = (front : List ℕ) × (letter : ℕ) × (others c : List ℕ)
     × (letters ≡ front ++ letter ∷ others) × (b ≡ front ++ c)
     × (EndsBefore 1 c why left ⊎ IsByte (λ x. x ≢ letter) registry.NotMetadata c why left)
 
--- what follows the letters is refused: there is no version, one that is not read, or the registry
--- after it
+-- what follows the letters is rejected: the version is missing or unknown, or the registry after it
+-- is rejected
 abbrev pub VersionFails : Refusals
 VersionFails b why left = EndsBefore 1 b why left
     ⊎ (IsByte (λ x. version_of x ≡ None) registry.WrongVersion b why left
     ⊎ ((x : ℕ) × (version_of x ≢ None) × Behind x (Fails registry_at) b why left))
 
--- this part is refused exactly so
+-- this part is rejected in exactly these ways
 abbrev pub AreFaults : {X : Type 0} → Reader X → Refusals → Type 0
 AreFaults part Refused = (b : List ℕ) (why : RegistryReason) (left : List ℕ) → AreBytes b →
     (Fails part b why left → Refused b why left) × (Refused b why left → Fails part b why left)
@@ -109,7 +110,7 @@ pub record PieceFaults : Type 0 where
   pub fields : AreFaults fields_at (OneOf FitsField field field_at)
   pub arms : AreFaults arms_read_at (OneOf FitsArm arm arm_read_at)
 
--- the faults of parameters, fields, arms and types: of the first part that is refused
+-- the faults of parameters, fields, arms and types: those of the first part that is rejected
 pub record PartFaults : Type 0 where
   pub param_faults : AreFaults param_at
       (Then FitsText text string_at (λ _. Fails (option_at type_id_at)))
@@ -125,7 +126,7 @@ pub record PartFaults : Type 0 where
       (Then FitsTexts texts texts_at (λ _. Then (FitsList FitsParam) (sequence param) params_at
       (λ _. Then FitsDefinition definition definition_at (λ _. Fails texts_at))))
 
--- the faults of a definition: there is no byte, one above 7, or what follows it is refused
+-- the faults of a definition: there is no byte, the byte is above 7, or what follows it is rejected
 pub record DefinitionFaults : Type 0 where
   pub none : definition_at [] ≡ Err (registry.Truncated, [])
   pub unknown : (x : ℕ) (c : List ℕ) → 7 < x →

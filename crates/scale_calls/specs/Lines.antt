@@ -46,12 +46,12 @@ kind_name (definition.Primitive p) = primitive_name p
 kind_name (definition.Compact target) = codes "compact"
 kind_name (definition.BitSequence store order) = codes "bitsequence"
 
--- the segments, with two colons between one and the next
+-- the segments, joined by `::`
 abbrev pub joined_segments : List (List ℕ) → List ℕ
 joined_segments [] = []
 joined_segments (s ∷ ss) = s ++ flat_map (λ t. codes "::" ++ t) ss
 
--- position, class, kind and path, with one space between, and the path as a JSON text
+-- position, class, kind and path, separated by spaces, with the path as a JSON text
 abbrev pub line_of_type : ℕ → Class → TypeInfo → List ℕ
 line_of_type i class info =
     decimal i ++ 32 ∷ (class_name
@@ -71,7 +71,7 @@ type_lines r = lines_from r 0 r
 abbrev pub type_line : List TypeInfo → ℕ → Option (List ℕ)
 type_line r i = option_map (λ x. line_of_type i (class_of r i) x) (slice_get r i)
 
--- the line of the version of metadata, and none of a registry that stands alone
+-- the line of the version of metadata; none for a registry alone
 abbrev pub version_line : Option Version → List ℕ
 version_line None = []
 version_line (Some version) = codes "metadata " ++ decimal (version_byte version) ++ 10 ∷ []

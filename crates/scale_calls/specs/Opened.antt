@@ -11,7 +11,7 @@ use Rattle.graph_core.specs.References.{first_fault}
 use Rattle.scale_calls.specs.declared.refusal.RegistryRefusal.{RegistryRefusal}
 use Rattle.scale_calls.specs.declared.refusal.RegistryRefusal.TheVariants as refusal
 
--- what is read, where nothing follows it
+-- what is read, if nothing follows it
 abbrev pub alone : {E X : Type 0} → Read E X → Option X
 alone (Ok (x, [])) = Some x
 alone (Ok (x, b ∷ bs)) = None
@@ -22,13 +22,13 @@ abbrev pub in_front : {E X : Type 0} → Read E X → Option X
 in_front (Ok x) = Some x.0
 in_front (Err e) = None
 
--- the types of a registry's file: metadata, of which only the type section is read, or a registry
+-- the types of a registry's file: metadata, read only up to the end of its types, or a registry
 -- alone
 abbrev pub types_of : Bool → List ℕ → Option (List TypeInfo)
 types_of true bytes = option_map (λ m. m.0) (in_front (metadata_at bytes))
 types_of false bytes = alone (registry_at bytes)
 
--- the version that a registry's file reports, which it does where it is metadata
+-- the version of a registry's file, if it is metadata
 abbrev pub file_version : Bool → List ℕ → Option Version
 file_version true bytes = option_map (λ m. m.1) (in_front (metadata_at bytes))
 file_version false bytes = None
@@ -38,7 +38,7 @@ abbrev pub end_of : {E X : Type 0} → List ℕ → Read E X → Option ℕ
 end_of input (Ok x) = Some (place input x.1)
 end_of input (Err e) = None
 
--- where the registry of such a file ends
+-- where the registry of a file ends
 abbrev pub file_end : Bool → List ℕ → Option ℕ
 file_end true bytes = end_of bytes (metadata_at bytes)
 file_end false bytes = end_of bytes (registry_at bytes)
@@ -47,18 +47,17 @@ abbrev pub unless_fault : Option (ℕ × ℕ) → List TypeInfo → Option (List
 unless_fault None types = Some types
 unless_fault (Some fault) types = None
 
--- the same where every reference is a position
+-- the types of a registry's file, if every reference is a position
 unfoldable pub checked_of : Bool → List ℕ → Option (List TypeInfo)
 checked_of metadata bytes =
     option_and_then (λ types. unless_fault (first_fault types) types) (types_of metadata bytes)
 
--- the first fault of such a file
+-- the first fault of a registry's file
 abbrev pub IsFirstFault : Bool → List ℕ → RegistryFault → Type 0
 IsFirstFault true bytes f = FaultAnswers bytes f (metadata_at bytes)
 IsFirstFault false bytes f = FaultAnswers bytes f (registry_at bytes)
 
--- why no types are read: the first fault, or bytes that follow the registry, unless memory was
--- refused
+-- why no types are read: the first fault, or bytes after the registry, unless an allocation failed
 abbrev pub RefusesTypes : Bool → List ℕ → RegistryRefusal → Type 0
 RefusesTypes metadata bytes (refusal.Fault f) = (types_of metadata bytes ≡ None)
     × IsFirstFault metadata bytes f
@@ -68,14 +67,14 @@ RefusesTypes metadata bytes (refusal.TrailingBytes at) = (types_of metadata byte
 RefusesTypes metadata bytes (refusal.Check unknown) = ⊥
 RefusesTypes metadata bytes refusal.Memory = Unit {0}
 
--- why types are refused: the first reference that is no position, unless an allocation failed
+-- why types are rejected: the first reference that is no position, unless an allocation failed
 abbrev pub RefusesCheck : List TypeInfo → RegistryRefusal → Type 0
 RefusesCheck types (refusal.Check unknown) = first_fault types ≡ Some (unknown.from, unknown.to)
 RefusesCheck types refusal.Memory = Unit {0}
 RefusesCheck types (refusal.Fault f) = ⊥
 RefusesCheck types (refusal.TrailingBytes at) = ⊥
 
--- why a registry's file is refused
+-- why a registry's file is rejected
 abbrev pub RefusesRegistry : Bool → List ℕ → RegistryRefusal → Type 0
 RefusesRegistry metadata bytes (refusal.Fault f) = (checked_of metadata bytes ≡ None)
     × IsFirstFault metadata bytes f

@@ -1,4 +1,4 @@
--- What the readers below refuse, as the refusal of the whole call.
+-- The faults of the readers below, as the refusal of a call.
 use Rattle.registry_core.specs.declared.fault.RegistryFault.{RegistryFault}
 use Rattle.registry_core.specs.declared.fault.RegistryReason.{RegistryReason}
 use Rattle.registry_core.specs.declared.fault.RegistryReason.TheVariants as registry
@@ -16,26 +16,26 @@ use Rattle.scale_calls.specs.declared.refusal.RegistryRefusal.TheVariants as typ
 use Rattle.scale_calls.specs.declared.refusal.ValueRefusal.{ValueRefusal}
 use Rattle.scale_calls.specs.declared.refusal.ValueRefusal.TheVariants as value
 
--- a fault with this reason
+-- the refusal of a fault with this reason
 abbrev pub registry_refusal_by : RegistryReason → RegistryFault → RegistryRefusal
 registry_refusal_by registry.OutOfMemory f = types.Memory
 registry_refusal_by _ f = types.Fault f
 
--- a registry's fault, where an allocation failure is no fault of its bytes
+-- the refusal of a registry's fault; an allocation failure is no fault of the bytes
 abbrev pub registry_refusal : RegistryFault → RegistryRefusal
 registry_refusal f = registry_refusal_by f.reason f
 
--- a check's fault, where an allocation failure is none of the registry's
+-- the refusal of a check's fault; an allocation failure is no fault of the registry
 abbrev pub check_refusal : CheckFault → RegistryRefusal
 check_refusal (check.UnknownType from to) = types.Check (record { from = from.0; to = to.0 })
 check_refusal check.OutOfMemory = types.Memory
 
--- a fault with this reason
+-- the refusal of a fault with this reason
 abbrev pub value_refusal_by : DecodeReason → DecodeFault → ValueRefusal
 value_refusal_by reason.OutOfMemory f = value.Memory
 value_refusal_by _ f = value.Fault f
 
--- a value's fault, where an allocation failure is no fault of its bytes
+-- the refusal of a value's fault; an allocation failure is no fault of the bytes
 abbrev pub value_refusal : DecodeFault → ValueRefusal
 value_refusal f = value_refusal_by f.reason f
 
@@ -45,7 +45,7 @@ opening_refusal opening.UnknownType = value.UnknownType
 opening_refusal opening.LimitOutOfRange = value.LimitOutOfRange
 opening_refusal opening.OutOfMemory = value.Memory
 
--- why pieces that are all there give no value
+-- why a complete list of pieces gives no value
 abbrev pub pieces_refusal : PiecesFault → ValueRefusal
 pieces_refusal (pieces.Open f) = opening_refusal f
 pieces_refusal (pieces.Decode f) = value_refusal f

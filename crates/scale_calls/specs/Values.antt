@@ -12,7 +12,7 @@ use Rattle.decode_core.specs.declared.fault.OpenFault.TheVariants as opening
 use Rattle.scale_calls.specs.declared.refusal.ValueRefusal.{ValueRefusal}
 use Rattle.scale_calls.specs.declared.refusal.ValueRefusal.TheVariants as refusal
 
--- the value, where so many bytes are its own
+-- the value, if it takes exactly `len` bytes
 abbrev pub whole : ℕ → Outcome → ℕ → Option Tree
 whole len (done v) taken = if taken == len then Some v else None
 whole len (refused reason at) taken = None
@@ -24,7 +24,7 @@ abbrev pub value_in : Job → List ℕ → Option Seen
 value_in j bytes = option_map (λ v. record { types = j.registry; ty = j.ty; tree = v })
     (whole (length bytes) (outcome_of j bytes).0 (outcome_of j bytes).1)
 
--- why bytes are refused: the type or a limit, the fault of the bytes, or that some follow the
+-- why bytes are rejected: the type or a limit, a fault of the bytes, or bytes that follow the
 -- value, unless an allocation failed
 abbrev pub RefusesValue : Option OpenFault → Job → List ℕ → ValueRefusal → Type 0
 RefusesValue forbidden j b refusal.UnknownType = forbidden ≡ Some opening.UnknownType
@@ -40,7 +40,7 @@ abbrev pub ReadsValue : Option OpenFault → Job → List ℕ → Result Seen Va
 ReadsValue forbidden j b (Ok v) = (forbidden ≡ None) × (value_in j b ≡ Some v)
 ReadsValue forbidden j b (Err e) = RefusesValue forbidden j b e
 
--- the text of its JSON, by the bytes of what was made, or why there is none
+-- the text of its JSON, whose bytes `bytes_of` gives, or why there is none
 abbrev pub ShowsValue : {X : Type 0} → (X → List ℕ) → Option OpenFault → Job → List ℕ →
     Result X ValueRefusal → Type 0
 ShowsValue bytes_of forbidden j b (Ok text) = (forbidden ≡ None)

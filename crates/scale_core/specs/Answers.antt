@@ -1,4 +1,4 @@
--- A reader's answer beside what reading gives: the value and how many bytes it took, or the fault
+-- How a reader's answer agrees with the reading: the value and how many bytes it took, or the fault
 -- and its place.
 use Rattle.std.specs.Prelude.{◌≡◌, ℕ, ◌^◌, ◌≤◌, List, length, drop, Result, Ok, Err, nat_lt, ◌==◌}
 use Rattle.std.specs.Prelude.{if◌then◌else◌}
@@ -16,11 +16,11 @@ Answers view input (Ok x) read = (x.1 ≤ length input) × (read ≡ Ok (view x.
 Answers view input (Err f) read = (left : List ℕ) × (read ≡ Err (f.reason, left))
     × (f.at ≡ place input left)
 
--- the refusal of an input that ends too early
+-- the fault of an input that ends too early
 abbrev pub truncated_fault : List ℕ → Fault
 truncated_fault input = record { reason = Truncated; at = length input }
 
--- the answer for a mode of len bytes that stands for n: both, or why it is not the one spelling
+-- the answer for a compact of len bytes that stands for n: both numbers, or why it is rejected
 abbrev pub judged : Target → ℕ → ℕ → Result (ℕ × ℕ) Fault
 judged m n len =
     if len == length (compact n) then

@@ -21,11 +21,11 @@ abbrev pub bytes_needed : ℕ → ℕ → ℕ
 bytes_needed zero n = 0
 bytes_needed (suc k) n = if nat_lt n (256 ^ k) then bytes_needed k n else suc k
 
--- the bytes after the first one in the fourth mode
+-- the number of bytes after the first one in big-integer mode
 abbrev pub big_bytes : ℕ → ℕ
 big_bytes n = max 4 (bytes_needed 16 n)
 
--- the one spelling of n, which is below 2 ^ 128
+-- the one spelling of n, for n below 2 ^ 128
 unfoldable pub compact : ℕ → List ℕ
 compact n =
     if nat_lt n 64 then 4 * n ∷ []
@@ -33,7 +33,7 @@ compact n =
     else if nat_lt n (2 ^ 30) then le_bytes 4 (4 * n + 2)
     else (4 * (big_bytes n - 4) + 3) ∷ le_bytes (big_bytes n) n
 
--- x fits the target, and the bytes are its one spelling there
+-- x fits the target, and the bytes are its one spelling
 abbrev pub IsCompact : Target → ℕ → List ℕ → Type 0
 IsCompact TUnit x bytes = (x ≡ 0) × (bytes ≡ [])
 IsCompact m x bytes = (x < 256 ^ target_bytes m) × (bytes ≡ compact x)

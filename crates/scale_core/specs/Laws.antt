@@ -26,18 +26,18 @@ TextIsPrefixFree = (s t a b rest more : List ℕ) → IsText s a → IsText t b 
 abbrev pub TextIsReadAgain : Type 0
 TextIsReadAgain = (s bytes rest : List ℕ) → IsText s bytes → text_at (bytes ++ rest) ≡ Ok (s, rest)
 
--- what is read as a compact integer is spelled by the bytes that it took
+-- the bytes read as a compact integer are the spelling of that integer
 abbrev pub CompactIsSpelled : Type 0
 CompactIsSpelled = (m : Target) (bytes : List ℕ) (x : ℕ) (rest : List ℕ) →
     compact_at m bytes ≡ Ok (x, rest) → (a : List ℕ) × (bytes ≡ a ++ rest) × IsCompact m x a
 
--- what is read as a text is spelled by the bytes that it took
+-- the bytes read as a text are the spelling of that text
 abbrev pub TextIsSpelled : Type 0
 TextIsSpelled = (bytes s rest : List ℕ) → text_at bytes ≡ Ok (s, rest) → (a : List ℕ)
     × (bytes ≡ a ++ rest) × IsText s a
 
--- the bytes of a number that fits k bytes are k bytes and spell it, and bytes are those of the
--- number that they spell
+-- the bytes of a number that fits k bytes are k bytes and spell that number; and any bytes are the
+-- bytes of the number that they spell
 pub record NumberIsSpelled : Type 0 where
   pub spelled : (k n : ℕ) → n < 256 ^ k → AreBytes (le_bytes k n) × (length (le_bytes k n) ≡ k)
       × (number (le_bytes k n) ≡ n)

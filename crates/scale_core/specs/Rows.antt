@@ -1,4 +1,4 @@
--- Worked rows: what the definitions compute to on bytes that are known from outside.
+-- Worked examples: what the definitions give for bytes that are known from elsewhere.
 use Rattle.std.specs.Prelude.{◌≡◌, [], ◌∷◌, Ok, Err}
 use Rattle.scale_core.specs.Compact.{compact}
 use Rattle.scale_core.specs.Read.{compact_at, text_at}

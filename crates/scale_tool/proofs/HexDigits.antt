@@ -168,7 +168,7 @@ end_of_two ys y false is = before_feed ys y ∙ before_other ys (10 ∷ []) y 13
 after : (ys zs : List ℕ) → drop (length ys) (ys ++ zs) ≡ zs
 after ys zs = drop_at ys zs (length ys) refl
 
--- a line end is told by where it begins
+-- a line end, by the place where it begins
 line_at : (text : List ℕ) (n : ℕ) → digits_end text ≡ n → IsLineEnd (drop n text) →
     IsLineEnd (drop (digits_end text) text)
 line_at text n e h = subst (λ (k : ℕ). IsLineEnd (drop k text)) (sym e) h

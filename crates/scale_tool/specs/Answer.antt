@@ -11,11 +11,11 @@ use Rattle.scale_tool.specs.Values.{StopsFile, decoding, file_value}
 use Rattle.scale_tool.specs.declared.task.Job.{Job}
 use Rattle.scale_tool.specs.declared.task.Job.TheVariants as job
 
--- the types, where the position is one of theirs
+-- the types, if the position is one of theirs
 abbrev pub with_position : ℕ → List TypeInfo → Option (List TypeInfo)
 with_position id types = if nat_lt id (length types) then Some types else None
 
--- the types of a registry's file, checked, where the position is one of theirs
+-- the types of a registry's file, checked, if the position is one of theirs
 abbrev pub types_with : Bool → ℕ → List ℕ → Option (List TypeInfo)
 types_with metadata id registry = option_and_then (with_position id) (checked_of metadata registry)
 
@@ -23,20 +23,20 @@ types_with metadata id registry = option_and_then (with_position id) (checked_of
 abbrev pub line_of : Seen → List ℕ
 line_of v = json_text v ++ 10 ∷ []
 
--- the text of a value's file, where neither it nor the registry's is refused
+-- the text of a value's file, if neither it nor the registry's is rejected
 abbrev pub value_text : Bool → Bool → ℕ → ℕ → List ℕ → List ℕ → Option (List ℕ)
 value_text metadata hex id depth registry value =
     option_and_then (λ types. option_map line_of (file_value hex (decoding id depth types) value))
     (types_with metadata id registry)
 
--- the text of a registry's types, where its bytes are not refused: the line of the version, where
--- one is reported, and a line for each type
+-- the text of a registry's types, if its bytes aren't rejected: the line of the version, if there
+-- is one, and a line for each type
 abbrev pub types_text : Bool → List ℕ → Option (List ℕ)
 types_text metadata registry =
     option_map (λ types. version_line (file_version metadata registry) ++ type_lines types)
     (checked_of metadata registry)
 
--- a fact about the text of the job, where the bytes that it goes by are known
+-- a property of the job's text, if the bytes that it depends on are known
 abbrev pub OnText : Job → Option (List ℕ) → Option (List ℕ) → (Option (List ℕ) → Type 0) → Type 0
 OnText (job.Types metadata) None value P = Unit {0}
 OnText (job.Types metadata) (Some registry) value P = P (types_text metadata registry)
@@ -45,25 +45,25 @@ OnText (job.Decode id metadata hex depth) (Some registry) None P = Unit {0}
 OnText (job.Decode id metadata hex depth) (Some registry) (Some value) P =
     P (value_text metadata hex id depth registry value)
 
--- the whole text went out
+-- the complete text was written
 abbrev pub WritesAll : Option (List ℕ) → Option (List ℕ) → Option (List ℕ) → Type 0
 WritesAll None old new = ⊥
 WritesAll (Some text) old new = Appends old new text
 
--- a beginning of the text went out, where there is one
+-- the first bytes of the text were written; nothing if there is no text
 abbrev pub WritesFront : Option (List ℕ) → Option (List ℕ) → Option (List ℕ) → Type 0
 WritesFront None old new = Keeps old new
 WritesFront (Some text) old new = (n : ℕ) × Appends old new (take n text)
 
--- the registry's bytes, where they are known, are not refused, and one of the types is the one of
--- the job's value
+-- the registry's bytes, if they are known, aren't rejected, and the type of the job's value is one
+-- of its types
 abbrev pub HasJobType : Job → Option (List ℕ) → Type 0
 HasJobType (job.Types metadata) registry = ⊥
 HasJobType (job.Decode id metadata hex depth) None = Unit {0}
 HasJobType (job.Decode id metadata hex depth) (Some registry) = (types : List TypeInfo)
     × (types_with metadata id registry ≡ Some types)
 
--- a read of a value failed, of the type at a position of a registry that isn't refused
+-- reading a value failed, and the registry isn't rejected and has the value's type
 abbrev pub StopsValue : Bool → Bool → ℕ → ℕ → Option (List ℕ) → (List ℕ → Type 0) →
     Option (List ℕ) → Option (List ℕ) → Type 0
 StopsValue metadata hex id depth registry fails known left = (types : List TypeInfo)
@@ -77,12 +77,12 @@ StopsJob (job.Types metadata) registry fails known left = ⊥
 StopsJob (job.Decode id metadata hex depth) registry fails known left =
     StopsValue metadata hex id depth registry fails known left
 
--- the job goes by its registry alone
+-- the job needs only its registry
 abbrev pub ReadsNoValue : Job → Type 0
 ReadsNoValue (job.Types metadata) = Unit {0}
 ReadsNoValue (job.Decode id metadata hex depth) = ⊥
 
--- the depth limit is one that the decoder keeps to
+-- the decoder supports the depth limit
 abbrev pub IsServed : Job → Type 0
 IsServed (job.Types metadata) = Unit {0}
 IsServed (job.Decode id metadata hex depth) = depth ≤ 1024

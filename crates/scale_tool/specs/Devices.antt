@@ -1,4 +1,4 @@
--- Calls on a device of which the last one failed.
+-- Calls on a device, the last of which failed.
 use Rattle.std.specs.Prelude.{◌≡◌, ◌<◌, ◌⊎◌, ℕ, List, Option, Err, length, take, drop, true}
 use Rattle.std.specs.Io.KnownBytes.{Appends}
 use Rattle.scale_core.specs.Stream.{Watched, taken}
@@ -6,17 +6,17 @@ use Rattle.scale_core.specs.declared.sink.SinkFault.{SinkFault}
 use Rattle.node_core.specs.Failed.{Meets, WriteOf}
 use Rattle.decode_core.specs.Streaming.{FailsAfter, ReadOf}
 
--- some reads gave bytes, or none was made, and the next one answered an error
+-- some reads, or none, returned bytes, and the next one returned an error
 abbrev pub FailsReading : {R : Type 0} → ReadOf R → Watched R → Watched R → Type 0
 FailsReading reads old new = (new.failed ≡ true)
     × ((b : List ℕ) × FailsAfter reads old.device new.device b)
 
--- the last write answered an error, or took nothing
+-- the last write returned an error, or took nothing
 abbrev pub FailsWriting : {W : Type 0} → WriteOf W → Watched W → Type 0
 FailsWriting writes new = (new.failed ≡ true)
     × ((reason : SinkFault) × Meets writes reason new.device)
 
--- all the bytes went out; or a beginning of them did, and the write of the rest answered an error,
+-- all bytes were written; or only the first ones were, and the write of the rest returned an error
 -- or took nothing
 abbrev pub Sends : {W : Type 0} → WriteOf W → (W → Option (List ℕ)) → Watched W → Watched W →
     List ℕ → Type 0

@@ -1,4 +1,4 @@
--- A command line that names no job: what is reported of it, and its status.
+-- A command line that names no job: what is reported about it, and its status.
 use Rattle.std.specs.Prelude.{◌≡◌, ◌≢◌, ℕ, ◌⊎◌, List, [], codes, string_bytes}
 use Rattle.clap.specs.Words.{HasKind, Text, fault_of, kind_of, subcommand_of}
 use Rattle.clap.specs.declared.error.Error.{Error}
@@ -12,7 +12,7 @@ use Rattle.scale_tool.specs.declared.jobs.JobFault.TheVariants as fault
 abbrev pub IsMistake : Error → Type 0
 IsMistake e = (kind_of e ≢ DisplayHelp) × (kind_of e ≢ DisplayVersion)
 
--- 2 for a mistake; 0 where the text that was asked for went out, and 3 where it could not
+-- 2 for a mistake; otherwise 0 if the requested text was written, and 3 if it couldn't be
 abbrev pub IsStatusOfLine : Error → ℕ → Type 0
 IsStatusOfLine e status = ((status ≡ 2) × IsMistake e)
     ⊎ (((status ≡ 0) ⊎ (status ≡ 3)) × (IsMistake e → ⊥))
@@ -23,15 +23,14 @@ IsStatusOf (fault.Line e text) status = IsStatusOfLine e status
 IsStatusOf fault.Usage status = status ≡ 2
 IsStatusOf fault.Memory status = status ≡ 4
 
--- what is reported of it: the text of what `clap` says, or one line
+-- what is reported about it: the text of `clap`, or one line
 abbrev pub reported_text : JobFault → List ℕ
 reported_text (fault.Line e text) = string_bytes text
 reported_text fault.Usage = codes "scaleview: usage\n"
 reported_text fault.Memory = codes "scaleview: memory\n"
 
--- what the words are refused for: by `clap`, with one of the kinds that it has for them and not for
--- an allocation failure, or where it has
--- none and they name no job
+-- why the words are rejected: with one of the errors that `clap` has for them, except an allocation
+-- failure; or `clap` has none and they name no job
 abbrev pub IsFaultOfWords : List Text → JobFault → Type 0
 IsFaultOfWords words (fault.Line e text) = HasKind (fault_of line words) e
     × (kind_of e ≢ OutOfMemory)

@@ -11,11 +11,11 @@ use Rattle.scale_tool.specs.declared.refusal.HexFault.TheVariants as fault
 use Rattle.scale_tool.specs.declared.refusal.HexRefusal.{HexRefusal}
 use Rattle.scale_tool.specs.declared.refusal.HexRefusal.TheVariants as hex
 
--- how many bytes stand before the digits
+-- the length of the prefix `0x`, or 0 without it
 abbrev pub prefix_len : List ℕ → ℕ
 prefix_len text = if bytes_eq (codes "0x") (take 2 text) then 2 else 0
 
--- the place of the byte before the end, where it is this one
+-- the place of the byte before `end` if it is `byte`, and otherwise `end`
 abbrev pub back_over : List ℕ → ℕ → ℕ → ℕ
 back_over text end byte =
     if nat_lt 0 end && slice_index text (end - 1) == byte then end - 1 else end
@@ -25,9 +25,8 @@ abbrev pub digits_end : List ℕ → ℕ
 digits_end text = if back_over text (length text) 10 == length text then length text else back_over
     text (back_over text (length text) 10) 13
 
--- the digits from one place to another, decoded: an odd number of them is a fault at their end, and
--- the first that is
--- none is one at its place
+-- the decoded digits between two places: an odd number of them is a fault at their end, and the
+-- first byte that is no digit is a fault at its place
 abbrev pub placed : ℕ → ℕ → Result (List ℕ) FromHexError → Result (List ℕ) HexFault
 placed start end (Ok bytes) = Ok bytes
 placed start end (Err (InvalidHexCharacter c i)) = Err (fault.Bad (start + i))
@@ -37,11 +36,11 @@ abbrev pub bytes_after : ℕ → List ℕ → Result (List ℕ) HexFault
 bytes_after start rest =
     placed start (start + digits_end rest) (decode_of (take (digits_end rest) rest))
 
--- the bytes of the whole text
+-- the bytes of the complete text
 unfoldable pub hex_bytes : List ℕ → Result (List ℕ) HexFault
 hex_bytes text = bytes_after (prefix_len text) (drop (prefix_len text) text)
 
--- what such a text is refused for; where an allocation fails nothing is said of it
+-- why a text is rejected, unless an allocation failed
 abbrev pub IsOfHex : Result (List ℕ) HexFault → HexRefusal → Type 0
 IsOfHex bytes (hex.Fault f) = bytes ≡ Err f
 IsOfHex bytes hex.Memory = Unit {0}
@@ -68,7 +67,7 @@ abbrev pub IsHexText : List ℕ → List ℕ → Type 0
 IsHexText text bytes = (front digits end : List ℕ) × (text ≡ front ++ (digits ++ end))
     × IsMark front × AreDigits digits bytes × IsLineEnd end
 
--- the bytes of a text are those that it holds, and it has bytes only where it holds them
+-- a text is read as these bytes exactly if it holds them
 abbrev pub HexIsRead : Type 0
 HexIsRead = (text bytes : List ℕ) → (hex_bytes text ≡ Ok bytes → IsHexText text bytes)
     × (IsHexText text bytes → hex_bytes text ≡ Ok bytes)

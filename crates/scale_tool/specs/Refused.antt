@@ -1,5 +1,4 @@
--- What each part of a job is refused for, as the refusal of the whole, and its exit status and
--- line.
+-- Why each part of a job is rejected, as the refusal of the job, with its exit status and line.
 use Rattle.std.specs.Prelude.{◌≡◌, ℕ, List, codes}
 use Rattle.decode_core.specs.declared.stream.StreamFault.{StreamFault}
 use Rattle.decode_core.specs.declared.stream.StreamFault.TheVariants as stream
@@ -31,7 +30,7 @@ IsRejected e = status_of e ≡ 1
 abbrev pub IsDevice : Refusal → Type 0
 IsDevice e = status_of e ≡ 3
 
--- what is reported where this device fails
+-- what is reported if this device fails
 abbrev pub device_line : Device → List ℕ
 device_line device.Registry = codes "scaleview: device: registry\n"
 device_line device.Value = codes "scaleview: device: value\n"
@@ -39,39 +38,39 @@ device_line device.Output = codes "scaleview: device: output\n"
 
 -- ---- registries
 
--- the refusal of the whole
+-- the refusal of the job
 abbrev pub refusal_of_registry : RegistryRefusal → Refusal
 refusal_of_registry (types.Fault fault) = refusal.Registry fault
 refusal_of_registry (types.TrailingBytes at) = refusal.TrailingRegistry at
 refusal_of_registry (types.Check unknown) = refusal.Check unknown
 refusal_of_registry types.Memory = refusal.Memory
 
--- and where a registry's bytes are refused
+-- the exit status if a registry's bytes are rejected
 abbrev pub status_of_registry : RegistryRefusal → ℕ
 status_of_registry e = status_of (refusal_of_registry e)
 
 -- ---- values
 
--- the refusal is one of the bytes, and not of the type or the limits
+-- the refusal is about the bytes, and not about the type or the limits
 abbrev pub IsOfBytes : ValueRefusal → Type 0
 IsOfBytes value.UnknownType = ⊥
 IsOfBytes value.LimitOutOfRange = ⊥
 IsOfBytes _ = Unit {0}
 
--- the refusal of the whole, where it is one of the bytes
+-- the refusal of the job, if the bytes of a value are rejected
 abbrev pub refusal_of_value : ValueRefusal → Refusal
 refusal_of_value (value.Fault f) = refusal.Value f
 refusal_of_value (value.TrailingBytes at) = refusal.TrailingValue at
 refusal_of_value _ = refusal.Memory
 
--- and where a reader has the bytes
+-- the same, if the bytes come from a reader
 abbrev pub refusal_of_stream : StreamFault → Refusal
 refusal_of_stream (stream.Open f) = refusal_of_value (opening_refusal f)
 refusal_of_stream (stream.Decode f) = refusal_of_value (value_refusal f)
 refusal_of_stream (stream.TrailingBytes at) = refusal.TrailingValue at
 refusal_of_stream stream.Device = refusal.ValueDevice
 
--- and where digits give no bytes
+-- the same, if digits give no bytes
 abbrev pub refusal_of_hex : HexRefusal → Refusal
 refusal_of_hex (hex.Fault f) = refusal.Hex f
 refusal_of_hex hex.Memory = refusal.Memory

@@ -1,4 +1,4 @@
--- What the command reports where it writes no text: the line of a refusal, and what that says of
+-- What the command reports if it writes no text: the line of a refusal, and what that says about
 -- the job's files.
 use Rattle.std.specs.Prelude.{◌≡◌, ◌≤◌, ℕ, List, [], ◌∷◌, ◌++◌, length, Bool, codes, decimal}
 use Rattle.std.specs.Prelude.{Option, Some, IfSome}
@@ -51,25 +51,25 @@ refusal_line refusal.Memory = codes "scaleview: memory\n"
 
 -- ---- what a refusal says
 
--- the job's registry stands in metadata, or alone
+-- whether the job's registry is in metadata
 abbrev pub in_metadata : Job → Bool
 in_metadata (job.Types metadata) = metadata
 in_metadata (job.Decode id metadata hex depth) = metadata
 
--- the position is that of the job's value, and none of the registry's types
+-- the position is that of the type of the job's value, and the registry has no such position
 abbrev pub LacksType : Job → ℕ → List ℕ → Type 0
 LacksType (job.Types metadata) at registry = ⊥
 LacksType (job.Decode id metadata hex depth) at registry = (at ≡ id) × ((types : List TypeInfo)
     × (checked_of metadata registry ≡ Some types) × (length types ≤ id))
 
--- the registry is not refused, and the value's file is, for this reason
+-- the registry isn't rejected, and the value's file is, with this refusal
 abbrev pub FaultsValue : Job → Option (List ℕ) → Option (List ℕ) → Refusal → Type 0
 FaultsValue (job.Types metadata) registry value e = ⊥
 FaultsValue (job.Decode id metadata hex depth) registry value e = (types : List TypeInfo)
     × IfSome registry (λ r. types_with metadata id r ≡ Some types)
     × ReportsFile hex (decoding id depth types) value e
 
--- what a refusal says of the bytes of the registry and the value, where these are known
+-- what a refusal says about the bytes of the registry and the value, if these are known
 abbrev pub Faults : Job → Option (List ℕ) → Option (List ℕ) → Refusal → Type 0
 Faults j r v (refusal.Registry f) =
     IfSome r (λ b. RefusesRegistry (in_metadata j) b (types.Fault f))
@@ -86,29 +86,29 @@ Faults j r v refusal.ValueDevice = Unit {0}
 Faults j r v refusal.OutputDevice = ⊥
 Faults j r v refusal.Memory = Unit {0}
 
--- the same of any job with this registry
+-- the same for any job with this registry
 abbrev pub FaultsRegistry : Bool → Option (List ℕ) → Refusal → Type 0
 FaultsRegistry metadata registry e = (j : Job) (value : Option (List ℕ)) →
     in_metadata j ≡ metadata → Faults j registry value e
 
--- the same of any job of a value of the type at this position
+-- the same for any job with a value of the type at this position
 abbrev pub FaultsType : Bool → ℕ → Option (List ℕ) → Refusal → Type 0
 FaultsType metadata id registry e = (hex : Bool) (depth : ℕ) (value : Option (List ℕ)) →
     Faults (job.Decode id metadata hex depth) registry value e
 
--- the same of a job of a value
+-- the same for a job with a value
 abbrev pub FaultsDecode : Bool → Bool → ℕ → ℕ → Option (List ℕ) → Option (List ℕ) → Refusal →
     Type 0
 FaultsDecode metadata hex id depth registry value e =
     Faults (job.Decode id metadata hex depth) registry value e
 
--- the device of the refusal has failed, or it says this of the files
+-- the device of the refusal failed, or the refusal says this about the files
 abbrev pub Stands : Type 0 → Type 0 → Type 0 → (Refusal → Type 0) → Refusal → Type 0
 Stands registry value out Says refusal.RegistryDevice = registry
 Stands registry value out Says refusal.ValueDevice = value
 Stands registry value out Says refusal.OutputDevice = out
 Stands registry value out Says e = Says e
 
--- the status is that of one refusal, of which this holds, and whose line was sent
+-- the status is that of a refusal for which this holds, and whose line was sent
 abbrev pub Reports : (Refusal → Type 0) → (List ℕ → Type 0) → ℕ → Type 0
 Reports Holds Sent status = (e : Refusal) × (status ≡ status_of e) × Holds e × Sent (refusal_line e)

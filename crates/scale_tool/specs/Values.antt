@@ -13,7 +13,7 @@ use Rattle.scale_tool.specs.declared.refusal.HexFault.{HexFault}
 use Rattle.scale_tool.specs.declared.refusal.Refusal.{Refusal}
 use Rattle.scale_tool.specs.declared.refusal.Refusal.TheVariants as refusal
 
--- the type at a position, as deep as reported, and 16777216 bytes at most
+-- a job: the type at a position, this depth limit, and a byte limit of 16777216
 abbrev pub decoding : ℕ → ℕ → List TypeInfo → decoder.Job
 decoding id depth types = record { registry = types; ty = id; depth = depth; bytes = 16777216 }
 
@@ -21,23 +21,22 @@ abbrev pub reported : Result (List ℕ) HexFault → Option (List ℕ)
 reported (Ok bytes) = Some bytes
 reported (Err f) = None
 
--- the bytes of a value: its file's, or those whose digits the file holds
+-- the bytes of a value: those of its file, or those that the digits in the file stand for
 abbrev pub value_bytes : Bool → List ℕ → Option (List ℕ)
 value_bytes true file = reported (hex_bytes file)
 value_bytes false file = Some file
 
--- the value that they spell
+-- the value that these bytes spell
 abbrev pub file_value : Bool → decoder.Job → List ℕ → Option Seen
 file_value hex j file = option_and_then (value_in j) (value_bytes hex file)
 
--- the value, or a refusal where there is none
+-- the value, or a refusal; if it rejects the input, there is no value
 abbrev pub ReadsFile : Option Seen → Result Seen Refusal → Type 0
 ReadsFile value (Ok v) = value ≡ Some v
 ReadsFile value (Err e) = IsRejected e → value ≡ None
 
--- what a refusal says of a value's file, where its bytes are known, unless the device failed or an
--- allocation failed: the fault of its digits or of the bytes that it has, or that some follow the
--- value
+-- what a refusal says about a value's file if its bytes are known, unless the device or an
+-- allocation failed: a fault of its digits, a fault of its bytes, or bytes that follow the value
 abbrev pub ReportsFile : Bool → decoder.Job → Option (List ℕ) → Refusal → Type 0
 ReportsFile hex j known (refusal.Hex fault) =
     IfSome known (λ file. (hex ≡ true) × (hex_bytes file ≡ Err fault))
@@ -49,8 +48,8 @@ ReportsFile hex j known refusal.ValueDevice = Unit {0}
 ReportsFile hex j known refusal.Memory = Unit {0}
 ReportsFile hex j known _ = ⊥
 
--- a read of a value's file failed: those before it gave bytes that leave the answer open; or they
--- gave digits, of which all are read before any answer
+-- a read of a value's file failed, and the bytes before it left the answer open; digits always do,
+-- since all are read before any answer
 abbrev pub StopsFile : Bool → decoder.Job → (List ℕ → Type 0) → Option (List ℕ) →
     Option (List ℕ) → Type 0
 StopsFile true j fails known left = (b : List ℕ) × fails b

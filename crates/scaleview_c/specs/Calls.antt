@@ -29,12 +29,11 @@ use Rattle.scaleview_c.specs.declared.opened.Opened.{Opened}
 use Rattle.scaleview_c.specs.declared.session.Stage.{Stage}
 use Rattle.scaleview_c.specs.declared.session.Stage.TheVariants as stage
 
--- the text stands at the front of what is written to; or it has no room there, and nothing is
--- written
+-- the text is written at the start of the memory; or it doesn't fit, and nothing is written
 abbrev pub Writes : List ℕ → List ℕ → List ℕ → Answer → Type 0
 Writes text old new a = IsInFront text old new × (a ≡ text_answer (length text) (length old))
 
--- the code alone is reported
+-- nothing is written, and this answer is reported
 abbrev pub Leaves : List ℕ → List ℕ → Answer → Answer → Type 0
 Leaves old new reported a = (new ≡ old) × (a ≡ reported)
 
@@ -44,7 +43,7 @@ WritesUnlessMemory text old new a = Leaves old new (plain 3) a ⊎ Writes text o
 
 -- ---- registries
 
--- the registry that the bytes hold is behind the handle; or nothing is, and it is reported why
+-- the registry that the bytes hold is behind the handle; or nothing is, and the answer says why
 abbrev pub OpensRegistry : Bool → List ℕ → Option Resource → Answer → Type 0
 OpensRegistry metadata b (Some (held.Registry o)) a = (checked_of metadata b ≡ Some o.checked.types)
     × ((end : ℕ) × (file_end metadata b ≡ Some end)
@@ -53,24 +52,24 @@ OpensRegistry metadata b (Some (held.Session s)) a = ⊥
 OpensRegistry metadata b None a = (e : RegistryRefusal) × RefusesRegistry metadata b e
     × (a ≡ registry_answer e)
 
--- it is reported that the handle is not none, and what is behind it stays
+-- the answer says that the handle isn't null, and what is behind it stays
 abbrev pub Stays : Option Resource → Option Resource → Answer → Type 0
 Stays old new a = (new ≡ old) × (a ≡ plain 6)
 
--- the registry is opened behind a handle that is none
+-- the registry is opened behind a null handle
 abbrev pub OpensHandle : Option Resource → Bool → List ℕ → Option Resource → Answer → Type 0
 OpensHandle (Some old) metadata b new a = Stays (Some old) new a
 OpensHandle None metadata b new a = OpensRegistry metadata b new a
 
--- the same of a box, by what it holds
+-- the same for a box, by what it holds
 abbrev pub OpensBox : {X : Type 0} → (X → Resource) → Bool → List ℕ →
     Result (X × Answer) RegistryRefusal →
     Type 0
 OpensBox value_of metadata b (Ok x) = OpensRegistry metadata b (Some (value_of x.0)) x.1
 OpensBox value_of metadata b (Err e) = RefusesRegistry metadata b e
 
--- nothing is behind the handle any more; or it stays, since a session has the registry, or since
--- it is no registry
+-- nothing is behind the handle any more; or what is there stays, because a session has the registry
+-- or because it is no registry
 abbrev pub ClosesRegistry : Option Resource → Option Resource → ℕ → Type 0
 ClosesRegistry (Some (held.Registry o)) new code = ((code ≡ 0) × (new ≡ None))
     ⊎ ((code ≡ 4) × (new ≡ Some (held.Registry o)))
@@ -83,7 +82,7 @@ ReportsTypes (Some (held.Registry o)) a = a ≡ counted 0 (length o.checked.type
 ReportsTypes (Some (held.Session s)) a = a ≡ plain 5
 ReportsTypes None a = a ≡ plain 5
 
--- the line of the type is written, where there is one, unless an allocation failed
+-- the line of the type is written, if the type exists, unless an allocation failed
 abbrev pub WritesLine : Option Resource → ℕ → List ℕ → List ℕ → Answer → Type 0
 WritesLine (Some (held.Registry o)) id old new a = Leaves old new (plain 3) a
     ⊎ MatchOption (type_line o.checked.types id) (Leaves old new (plain 201) a)
@@ -91,12 +90,12 @@ WritesLine (Some (held.Registry o)) id old new a = Leaves old new (plain 3) a
 WritesLine (Some (held.Session s)) id old new a = Leaves old new (plain 5) a
 WritesLine None id old new a = Leaves old new (plain 5) a
 
--- a text is written, or it is reported why there is none
+-- a text is written, or the answer says why there is none
 abbrev pub WritesResult : Result (List ℕ) ValueRefusal → List ℕ → List ℕ → Answer → Type 0
 WritesResult (Ok text) old new a = Writes text old new a
 WritesResult (Err e) old new a = Leaves old new (value_answer e) a
 
--- the JSON of the value that the bytes spell is written, or it is reported why there is none
+-- the JSON of the value that the bytes spell is written, or the answer says why there is none
 abbrev pub WritesJson : Opened → ℕ → Limits → List ℕ → List ℕ → List ℕ → Answer → Type 0
 WritesJson o id limits b old new a = (r : Result (List ℕ) ValueRefusal)
     × ShowsValue (λ (text : List ℕ). text) (opening_fault o.checked.types id limits)
@@ -114,14 +113,14 @@ abbrev pub ForbidsStart : Option OpenFault → Answer → Type 0
 ForbidsStart forbidden a = ((f : OpenFault) × (forbidden ≡ Some f)
     × (a ≡ value_answer (opening_refusal f))) ⊎ (a ≡ plain 3)
 
--- a decoder of the type that has taken nothing
+-- a decoder of the type that has taken no bytes yet
 abbrev pub IsStarted : Opened → ℕ → Limits → Stage → Type 0
 IsStarted o id limits (stage.Decoding d) = (opening_fault o.checked.types id limits ≡ None)
     × (d ≡ first_of_all o.checked.types id limits) × Led d []
 IsStarted o id limits (stage.Complete v) = ⊥
 IsStarted o id limits (stage.Refused e) = ⊥
 
--- what a box holds is such a session; or it is reported why there is none
+-- a box holds a started session; or the answer says why there is none
 abbrev pub IsSession : Opened → ℕ → Limits → Resource → Type 0
 IsSession o id limits (held.Session s) = IsStarted o id limits s.stage
 IsSession o id limits (held.Registry other) = ⊥
@@ -132,7 +131,7 @@ StartsBox value_of o id limits (Ok x) = IsSession o id limits (value_of x)
 StartsBox value_of o id limits (Err e) =
     ForbidsStart (opening_fault o.checked.types id limits) (value_answer e)
 
--- such a session is behind the handle; or nothing is, and it is reported why
+-- a started session is behind the handle; or nothing is, and the answer says why
 abbrev pub StartsSession : Option Resource → ℕ → Limits → Option Resource → Answer → Type 0
 StartsSession (Some (held.Registry o)) id limits (Some (held.Session s)) a =
     IsStarted o id limits s.stage
@@ -143,7 +142,7 @@ StartsSession (Some (held.Registry o)) id limits None a =
 StartsSession (Some (held.Session s)) id limits new a = (new ≡ None) × (a ≡ plain 5)
 StartsSession None id limits new a = (new ≡ None) × (a ≡ plain 5)
 
--- the session is started behind a handle that is none
+-- the session is started behind a null handle
 abbrev pub StartsHandle : Option Resource → Option Resource → ℕ → Limits → Option Resource →
     Answer → Type 0
 StartsHandle (Some old) registry id limits new a = Stays (Some old) new a
@@ -154,7 +153,7 @@ abbrev pub fed_answer : Result Progress DecodeFault → Answer
 fed_answer (Ok progress) = progress_answer progress
 fed_answer (Err f) = value_answer (value_refusal f)
 
--- the decoder took the piece, and its answer is reported; a value that was ended stays
+-- the decoder took the piece, and its answer is reported; a value that has ended stays
 abbrev pub FeedsStage : Stage → List ℕ → Stage → Answer → Type 0
 FeedsStage (stage.Decoding d) piece (stage.Decoding e) a = (r : Result Progress DecodeFault)
     × ((b : List ℕ) → Led d b → AnswersPiece d e (b ++ piece) r × Led e (b ++ piece))
@@ -164,7 +163,7 @@ FeedsStage (stage.Decoding d) piece (stage.Refused e) a = ⊥
 FeedsStage (stage.Complete v) piece new a = (new ≡ stage.Complete v) × (a ≡ counted 0 0)
 FeedsStage (stage.Refused e) piece new a = (new ≡ stage.Refused e) × (a ≡ value_answer e)
 
--- there is no session, which is reported, and nothing changes
+-- the answer says that there is no session, and nothing changes
 abbrev pub IsNone : Option Resource → Option Resource → Answer → Type 0
 IsNone old new a = (new ≡ old) × (a ≡ plain 5)
 
@@ -191,7 +190,7 @@ text_bytes_held (stage.Decoding d) = text_bytes d
 text_bytes_held (stage.Complete v) = tree_text_bytes v.tree
 text_bytes_held (stage.Refused e) = 0
 
--- it is reported, and nothing changes
+-- the count is reported, and nothing changes
 abbrev pub Reports : (Stage → ℕ) → Option Resource → Option Resource → Answer → Type 0
 Reports count (Some (held.Session s)) new a = (new ≡ Some (held.Session s))
     × (a ≡ counted 0 (count s.stage))
@@ -206,14 +205,14 @@ EndsAs j b (stage.Refused value.Memory) = Unit {0}
 EndsAs j b (stage.Refused _) = ⊥
 EndsAs j b (stage.Decoding d) = ⊥
 
--- a value in progress is ended, and one that was ended stays
+-- a value in progress is ended, and one that has ended stays
 abbrev pub Ends : Stage → Stage → Type 0
 Ends (stage.Decoding d) new = (b : List ℕ) → Led d b → EndsAs d.job b new
 Ends (stage.Complete v) new = new ≡ stage.Complete v
 Ends (stage.Refused e) new = new ≡ stage.Refused e
 
--- the JSON of a complete value is written, unless an allocation failed; or it is reported why there
--- is none
+-- the JSON of a complete value is written, unless an allocation failed; or the answer says why
+-- there is none
 abbrev pub WritesStage : Stage → List ℕ → List ℕ → Answer → Type 0
 WritesStage (stage.Decoding d) old new a = Leaves old new (plain 1) a
 WritesStage (stage.Complete v) old new a = WritesUnlessMemory (json_text v) old new a
@@ -228,7 +227,7 @@ FinishesSession (Some (held.Registry o)) kept old new a = IsNone (Some (held.Reg
     × (new ≡ old)
 FinishesSession None kept old new a = IsNone None kept a × (new ≡ old)
 
--- nothing is behind the handle any more, or the registry that was there
+-- nothing is behind the handle any more, or a registry, which stays
 abbrev pub Frees : Option Resource → Option Resource → ℕ → Type 0
 Frees (Some (held.Session s)) new code = (new ≡ None) × (code ≡ 0)
 Frees (Some (held.Registry o)) new code = (new ≡ Some (held.Registry o)) × (code ≡ 5)

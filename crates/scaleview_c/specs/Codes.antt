@@ -55,7 +55,7 @@ plain code = record { code = code; from = 0; at = 0; length = 0 }
 abbrev pub counted : ℕ → ℕ → Answer
 counted code length = record { code = code; from = 0; at = 0; length = length }
 
--- a text of so many bytes, and memory with so much room: it stands there, or has no room
+-- the answer for a text of `len` bytes and memory for `room` bytes: it is written, or doesn't fit
 abbrev pub text_answer : ℕ → ℕ → Answer
 text_answer len room = counted (if nat_le len room then 0 else 2) len
 
@@ -88,7 +88,7 @@ value_answer (value.Fault fault) = refused (value_code fault.reason) fault.at
 value_answer (value.TrailingBytes at) = refused 313 at
 value_answer value.Memory = plain 3
 
--- why records are no value: from 401 on the builder's reasons
+-- why records are no value: the builder's reasons, from 401 on
 abbrev pub record_code : BuildFault → ℕ
 record_code fault.TooDeep = 401
 record_code fault.NoFiniteValue = 402
@@ -114,7 +114,7 @@ abbrev pub records_answer : RecordFault → Answer
 records_answer (records.Open reason) = plain (opening_code reason)
 records_answer (records.Record at reason) = rejected at reason
 
--- how far a value is
+-- the answer to a piece: more bytes are missing, or a value is complete
 abbrev pub progress_answer : Progress → Answer
 progress_answer progress.More = plain 1
 progress_answer (progress.Done used) = counted 0 used

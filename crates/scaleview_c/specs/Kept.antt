@@ -4,24 +4,24 @@ use Rattle.scaleview_c.specs.declared.resource.Resource.{Resource}
 use Rattle.scaleview_c.specs.declared.resource.Resource.TheVariants as held
 use Rattle.scaleview_c.specs.declared.opened.Opened.{Opened}
 
--- in a state of a keeper, how many sessions a registry has
+-- how many sessions a registry has in a state of the keeper
 abbrev pub Counts : Type 0 → Type 1
 Counts K = K → Opened → ℕ → Type 0
 
--- between two states of a keeper, one box was given back, which held this
+-- a box that held this resource was given back between two states of the keeper
 abbrev pub Takes : Type 0 → Type 1
 Takes K = K → Resource → K → Type 0
 
--- the registry has one session more; the greatest count stays
+-- the registry has one session more, up to the greatest count
 abbrev pub Lends : {K : Type 0} → Counts K → K → Opened → K → Type 0
 Lends counts before o after = (n : ℕ) × counts before o n
     × counts after o (min (n + 1) (2 ^ 64 - 1))
 
--- the registry has one session less; 0 stays
+-- the registry has one session fewer, down to 0
 abbrev pub TakesBack : {K : Type 0} → Counts K → K → Opened → K → Type 0
 TakesBack counts before o after = (n : ℕ) × counts before o n × counts after o (n - 1)
 
--- a session that was started is counted, and else nothing changes
+-- a session that was started is counted; otherwise nothing changes
 abbrev pub CountsStart : {K : Type 0} → Counts K → K → Option Resource → Option Resource →
     Option Resource →
     K → Type 0
@@ -32,21 +32,21 @@ CountsStart counts before None (Some (held.Session s)) new after = after ≡ bef
 CountsStart counts before None None new after = after ≡ before
 CountsStart counts before (Some old) registry new after = after ≡ before
 
--- a session is not counted any more and its box was given back, and else nothing changes
+-- a session is no longer counted and its box was given back; otherwise nothing changes
 abbrev pub GivesSession : {K : Type 0} → Counts K → Takes K → K → Option Resource → K → Type 0
 GivesSession {K} counts takes before (Some (held.Session s)) after =
     (mid : K) × TakesBack counts before s.registry.now mid × takes mid (held.Session s) after
 GivesSession counts takes before (Some (held.Registry o)) after = after ≡ before
 GivesSession counts takes before None after = after ≡ before
 
--- a registry is lent exactly where it has a session
+-- a registry is lent exactly if it has a session
 abbrev pub AnswersClose : {K : Type 0} → Counts K → K → Resource → ℕ → Type 0
 AnswersClose counts state (held.Registry o) code = (n : ℕ) × counts state o n
     × (((n ≡ 0) × (code ≡ 0)) ⊎ ((0 < n) × (code ≡ 4)))
 AnswersClose counts state (held.Session s) code = code ≡ 5
 
--- the box of a registry without sessions was given back; where it has one that is answered, and
--- nothing changes
+-- the box of a registry without sessions was given back; if it has a session, the answer says so
+-- and nothing changes
 abbrev pub GivesRegistry : {K : Type 0} → Counts K → Takes K → K → Option Resource → K → ℕ → Type 0
 GivesRegistry counts takes before (Some (held.Registry o)) after code = (n : ℕ)
     × counts before o n × (((n ≡ 0) × (code ≡ 0) × takes before (held.Registry o) after)

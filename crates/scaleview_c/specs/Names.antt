@@ -39,7 +39,7 @@ of_records = codes "TooDeep" ∷ codes "NoFiniteValue" ∷ codes "BitSequence" �
     ∷ codes "WrongKind" ∷ codes "OutOfRange" ∷ codes "NoSuchVariant" ∷ codes "UnfinishedValue"
     ∷ codes "BadText" ∷ []
 
--- the name of a code; what is no code has none
+-- the name of a code; empty for any other number
 abbrev pub code_name : ℕ → List ℕ
 code_name code = if nat_le code 6 then slice_index_or calls code []
     else if nat_le code 100 then []

@@ -28,7 +28,7 @@ use Rattle.scaleview_c.specs.declared.session.Stage.TheVariants as stage
 
 -- ---- nodes that are written
 
--- so many records and so many bytes of their pool, and whether both have room
+-- how many records and bytes of their pool there are, and whether both fit
 abbrev pub nodes_answer : List Cell → List Record → List ℕ → Answer
 nodes_answer cs records pool = record {
   code =
@@ -39,14 +39,14 @@ nodes_answer cs records pool = record {
   length = length cs;
 }
 
--- the records of a value and its pool are written, if they have room
+-- the records of a value and its pool are written, if they fit
 pub record PutsNodes (v : Seen) (old new : List Record) (old_pool pool : List ℕ) (a : Answer) :
     Type 0
   where
     pub writes : WritesNodes (nodes_of v) old new old_pool pool
     pub reports : a ≡ nodes_answer (nodes_of v) old old_pool
 
--- the code alone is reported, and nothing is written
+-- nothing is written, and this answer is reported
 pub record LeavesNodes (reported : Answer) (old new : List Record) (old_pool pool : List ℕ)
     (a : Answer) : Type 0
   where
@@ -60,7 +60,7 @@ PutsResult (Ok v) old new old_pool pool a = PutsNodes v old new old_pool pool a
 PutsResult (Err e) old new old_pool pool a =
     LeavesNodes (value_answer e) old new old_pool pool a
 
--- the nodes of the value that the bytes spell are written, or it is reported why there is none
+-- the nodes of the value that the bytes spell are written, or the answer says why there is none
 abbrev pub WritesValueNodes : Opened → ℕ → Limits → List ℕ → List Record → List Record → List ℕ →
     List ℕ → Answer → Type 0
 WritesValueNodes o id limits b old new old_pool pool a = (r : Result Seen ValueRefusal)
@@ -99,24 +99,24 @@ FinishesNodes None kept old new old_pool pool a = (kept ≡ None)
 
 -- ---- nodes that are read
 
--- the value of the type that records are, or which of them is rejected and why
+-- the value that the records give for the type, or which of them is rejected and why
 abbrev pub ReadsNodes : List TypeInfo → ℕ → ℕ → List Record → List ℕ → Result Seen RecordFault →
     Type 0
 ReadsNodes types id depth records pool r = ReadsRecords (build_opening_fault types id depth)
     (ended (length records) (replay pool records (start_with types id depth))) r
 
--- the tree that the records are, of this type
+-- the value of this type with the tree of the records
 abbrev pub value_of : List TypeInfo → ℕ → List Record → List ℕ → Seen
 value_of types id records pool =
     record { types = types; ty = id; tree = tree_read pool records }
 
--- the bytes that spell the value are written, or it is reported why there is none
+-- the bytes that spell the value are written, or the answer says why there is none
 abbrev pub WritesSpelling : Seen → Result Seen RecordFault → List ℕ → List ℕ → Answer → Type 0
 WritesSpelling wanted (Ok v) old new a = (v ≡ wanted)
     × ((b : List ℕ) × IsEncoding v b × Writes b old new a)
 WritesSpelling wanted (Err e) old new a = Leaves old new (records_answer e) a
 
--- the same of the value that the records are, unless an allocation failed
+-- the same for the value of the records, unless an allocation failed
 abbrev pub Encodes : List TypeInfo → ℕ → ℕ → List Record → List ℕ → List ℕ → List ℕ → Answer →
     Type 0
 Encodes types id depth records pool old new a = Leaves old new (plain 3) a

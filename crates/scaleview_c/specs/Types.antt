@@ -38,7 +38,7 @@ kind_number (definition.Primitive p) = 5
 kind_number (definition.Compact target) = 6
 kind_number (definition.BitSequence store order) = 7
 
--- a kind and a class alone: each number that the kind gives no meaning is 0
+-- a kind and a class alone: every number without a meaning for the kind is 0
 abbrev pub plain_shape : ℕ → Class → TypeShape
 plain_shape kind c = record {
   kind = kind;
@@ -92,7 +92,8 @@ shape_numbers c d = record {
   parts = parts_of d;
 }
 
--- the numbers of the type are reported; or that there is no type, and the numbers are unchanged
+-- the numbers of the type are reported; or the answer says that there is no type, and the numbers
+-- are unchanged
 abbrev pub DescribesShape : Option (Class × TypeDef) → TypeShape → TypeShape → Answer → Type 0
 DescribesShape (Some x) old new a = (new ≡ shape_numbers x.0 x.1) × (a ≡ plain 0)
 DescribesShape None old new a = (new ≡ old) × (a ≡ plain 201)
@@ -105,12 +106,12 @@ ReportsShape None id old new a = (new ≡ old) × (a ≡ plain 5)
 
 -- ---- names of parts and arms
 
--- the answer of a name of `len` bytes and memory for `room` bytes, with two more numbers
+-- the answer for a name of `len` bytes and memory for `room` bytes, with two more numbers
 abbrev pub name_answer : ℕ → ℕ → ℕ → ℕ → Answer
 name_answer len room from at =
     record { code = if nat_le len room then 0 else 2; from = from; at = at; length = len }
 
--- the name is written if it has room, and the numbers are reported
+-- the name is written if it fits, and the numbers are reported
 abbrev pub WritesName : List ℕ → ℕ → ℕ → List ℕ → List ℕ → Answer → Type 0
 WritesName name from at old new a = IsInFront name old new
     × (a ≡ name_answer (length name) (length old) from at)
@@ -120,7 +121,7 @@ abbrev pub part_code : PartRefusal → ℕ
 part_code refusal.UnknownType = 201
 part_code refusal.UnknownPart = 203
 
--- the name of a part with its type, and 1 if it has a name; or it is reported why there is no part
+-- the name of a part with its type, and 1 if it has a name; or the answer says why there is no part
 abbrev pub WritesPart : Result Named PartRefusal → List ℕ → List ℕ → Answer → Type 0
 WritesPart (Ok (Some name, ty)) old new a = WritesName name ty 1 old new a
 WritesPart (Ok (None, ty)) old new a = WritesName [] ty 0 old new a
@@ -138,7 +139,7 @@ WritesArmField (Some (held.Registry o)) id arm field old new a =
 WritesArmField (Some (held.Session s)) id arm field old new a = Leaves old new (plain 5) a
 WritesArmField None id arm field old new a = Leaves old new (plain 5) a
 
--- the name of an arm with its index and its number of fields; or it is reported why there is none
+-- the name of an arm with its index and its number of fields; or the answer says why there is none
 abbrev pub DescribesArm : Result Arm PartRefusal → List ℕ → List ℕ → Answer → Type 0
 DescribesArm (Ok arm) old new a = WritesName arm.name arm.index (length arm.fields) old new a
 DescribesArm (Err e) old new a = Leaves old new (plain (part_code e)) a
@@ -151,7 +152,7 @@ WritesArm None id arm old new a = Leaves old new (plain 5) a
 
 -- ---- paths
 
--- the path of the type is written, if there is one, unless an allocation failed
+-- the path of the type is written, if the type exists, unless an allocation failed
 abbrev pub WritesPath : Option Resource → ℕ → List ℕ → List ℕ → Answer → Type 0
 WritesPath (Some (held.Registry o)) id old new a = Leaves old new (plain 3) a
     ⊎ MatchOption (type_path o.checked.types id) (Leaves old new (plain 201) a)

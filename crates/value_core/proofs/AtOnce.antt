@@ -316,7 +316,7 @@ seen_as ty w pool ns run turns = record {
   turns = turns;
 }
 
--- a node that may be opened is told by the fields too
+-- a node that may be opened in `seen` may be opened in the equal `old`
 opens_by : {old seen : Built} (h : Head) (p : Part) → old ≡ seen → IsNextOpen seen.walk h p →
     IsNextOpen old.walk h p
 opens_by h p is next = subst (λ (b : Built). IsNextOpen b.walk h p) (sym is) next

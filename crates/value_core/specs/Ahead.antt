@@ -1,4 +1,4 @@
--- What a walk knows of the type that is next.
+-- What a walk knows about the type that is next.
 use Rattle.std.specs.Prelude.{◌≡◌, ℕ, List, Some, None}
 use Rattle.registry_core.specs.declared.type_info.TypeInfo.{TypeInfo}
 use Rattle.graph_core.specs.Types.{shape}
@@ -9,7 +9,7 @@ use Rattle.widths_core.specs.declared.type_step.TypeStep.TheVariants as step
 use Rattle.node_core.specs.Remaining.{copies_of, members_of}
 use Rattle.node_core.specs.declared.remaining.Remaining.{Remaining}
 
--- this is the step of type t; a type that is not known has no value
+-- s is the step of type t, which is `NoValue` if the type is unknown
 abbrev pub IsStepOf : List TypeInfo → ℕ → TypeStep → Type 0
 IsStepOf r t s = elim (shape r t) [
   | Some d ↦ IsStep r (references_of r) (λ from count arms. Unit {0}) (class_of r t) d s
@@ -17,12 +17,12 @@ IsStepOf r t s = elim (shape r t) [
       s ≡ step.NoValue
 ]
 
--- the parts of a composite or a tuple of this step
+-- the parts of a composite or a tuple with this step
 abbrev pub members_in : TypeStep → Remaining
 members_in (step.Parts from count) = members_of from count
 members_in _ = copies_of 0 0
 
--- so many elements of an array or a sequence of this step
+-- `count` elements of an array or a sequence with this step
 abbrev pub elements_in : TypeStep → ℕ → Remaining
 elements_in (step.Array n t) count = copies_of count t
 elements_in (step.Sequence t) count = copies_of count t

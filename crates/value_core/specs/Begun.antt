@@ -1,4 +1,4 @@
--- What a builder holds: a begun tree, and what its walk says of it.
+-- What a builder holds: a begun tree, and how its walk describes it.
 use Rattle.std.specs.Prelude.{◌≡◌, ℕ, ◌+◌, ◌-◌, nat_lt, if◌then◌else◌, List, length, map, flat_map}
 use Rattle.std.specs.Prelude.{Option, Some, None, option_map}
 use Rattle.scale_core.specs.Number.{AreBytes}
@@ -15,24 +15,22 @@ use Rattle.value_core.specs.Walked.{Walked, next_type, next_of, depth_of}
 use Rattle.value_core.specs.Built.{Built, HasFewTurns, entries_text_bytes}
 use Rattle.value_core.specs.Refusals.{is_complete}
 
--- the type that is next in a walk, with the levels that there is room for at it
+-- the levels left for the next type of a walk, and that type
 abbrev pub next_with_room : Walked → Option (ℕ × ℕ)
 next_with_room w = option_map (λ t. (w.limit + 2 - length w.frames, t)) (next_type w)
 
--- what comes where this type is missing, with so much room: a value needs a level at least
+-- what comes next if this type is missing and so many levels are left: a value needs at least one
 abbrev pub next_in : List TypeInfo → Option (ℕ × ℕ) → Next
 next_in r None = next.Finished
 next_in r (Some n) = if nat_lt 0 n.0 then next_at r n.1 else next.Stop stop.TooDeep
 
--- what the nodes are in bytes, one after the other
+-- the bytes of the nodes, one after the other
 abbrev pub built_bytes : Built → List ℕ
 built_bytes b = flat_map (λ e. own_bytes (shape b.walk.types e.ty) e.head) b.entries
 
--- the nodes are those of a begun tree of the type, and so are their bytes; its levels fit the depth
--- limit; its first missing
--- type is the walk's next one, at its depth; it is a value exactly where the builder is whole; and
--- its loop turned no more often
--- than there were nodes to close
+-- the nodes and their bytes are those of a begun tree of the type, whose levels fit the depth
+-- limit; the type that is missing first is the walk's next one, at its depth; the tree is a value
+-- exactly if the builder is complete; and there were no more turns than nodes to close
 pub record IsBegun (b : Built) : Type 0 where
   pub tree : Begun
   pub are_bytes : AreBytes (built_bytes b)

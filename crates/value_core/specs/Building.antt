@@ -1,4 +1,4 @@
--- What a builder keeps to: its nodes are those of a value that is being built.
+-- The invariant of a builder: its nodes are those of a value that is being built.
 use Rattle.std.specs.Prelude.{◌≡◌, ℕ, ◌+◌, ◌≤◌, ◌<◌, ◌^◌, List, length, drop, Option, Some, None}
 use Rattle.std.specs.Prelude.{option_map}
 use Rattle.scale_core.specs.Number.{AreBytes}
@@ -29,7 +29,7 @@ pub record IsBuilding (ty : ℕ) (w : Walked) (pool : List ℕ) (ns : List Node)
 abbrev pub AreBuilt : Walked → List Node → Type 0
 AreBuilt w ns = (ty : ℕ) × (pool : List ℕ) × (text_len : ℕ) × IsBuilding ty w pool ns text_len
 
--- open nodes that are whole were closed: some of them, or all, or none
+-- open nodes that are complete were closed: none, some or all of them
 pub record Settles (old : Walked) (before : List Node) (new : Walked) (after : List Node) : Type 0
   where
     pub walk : settled_walk new ≡ settled_walk old
@@ -38,12 +38,12 @@ pub record Settles (old : Walked) (before : List Node) (new : Walked) (after : L
         IsBuilding ty new pool after text_len
     pub kept : all_kept after ≡ all_kept before
 
--- an open run is what the pool has from its place on
+-- an open run is the rest of the pool from its place on
 abbrev pub pieces_shown : List ℕ → Option OpenRun → Option Pieces
 pieces_shown pool open_run =
     option_map (λ o. record { kind = o.kind; len = o.len; bytes = drop o.start pool }) open_run
 
--- it is next, has no more bytes than it is to have, and begins where the bytes of all nodes end
+-- an open run is next, has at most `len` bytes so far, and begins where the bytes of all nodes end
 pub record IsOpenAt (w : Walked) (pool : List ℕ) (kept : ℕ) (k : RunKind) (start len : ℕ) : Type 0
   where
     pub is_next : next_of w ≡ next.Wants (run_form k)
@@ -54,12 +54,12 @@ pub record IsOpenAt (w : Walked) (pool : List ℕ) (kept : ℕ) (k : RunKind) (s
     pub spelled : len < 2 ^ 32
     pub fits : FitsKind k len
 
--- the pool has exactly the bytes that the nodes keep there and those that came of the open run
+-- the pool has exactly the bytes of the nodes and the bytes so far of the open run
 abbrev pub IsOpenRun : Walked → List ℕ → ℕ → Option OpenRun → Type 0
 IsOpenRun w pool kept (Some o) = IsOpenAt w pool kept o.kind o.start o.len
 IsOpenRun w pool kept None = kept ≡ length pool
 
--- each turn of the closing loop closed a node that had been opened, so there are no more than
--- nodes, less those still open
+-- each turn of the closing loop closed an open node, so there are at most as many turns as nodes,
+-- less those still open
 abbrev pub IsPaid : Walked → List Node → ℕ → Type 0
 IsPaid w ns turns = turns + length w.frames ≤ length ns + 1

@@ -1,4 +1,4 @@
--- What contracts see of a value that is being built, and what adding a node makes of it.
+-- What contracts see of a value that is being built, and how adding a node changes it.
 use Rattle.std.specs.Prelude.{◌≡◌, ℕ, ◌+◌, ◌-◌, ◌≤◌, List, [], ◌∷◌, ◌++◌, length, map, Option, Some}
 use Rattle.std.specs.Prelude.{None, option_map, true}
 use Rattle.scale_core.specs.Number.{AreBytes}
@@ -33,16 +33,14 @@ pub record Entry : Type 0 where
   pub ty : ℕ
   pub head : Head
 
--- a text or a run of bytes that comes in pieces: which it is, how many bytes it is to have, and
--- those that came
+-- a text or a run of bytes that comes in pieces: its kind, its length, and its bytes so far
 pub record Pieces : Type 0 where
   pub kind : RunKind
   pub len : ℕ
   pub bytes : List ℕ
 
--- a value of type ty that is being built: the walk through it, the nodes that it has, each before
--- its children, the run that is open, and how many turns the loop of its calls has taken, which
--- closes nodes
+-- a value of type ty that is being built: the walk through it, its nodes in preorder, the run that
+-- is open, and how many turns the loop that closes nodes has taken
 pub record Built : Type 0 where
   pub ty : ℕ
   pub walk : Walked
@@ -59,12 +57,12 @@ head_text_bytes (head.leaf (tree.text s)) = length s
 head_text_bytes (head.leaf (tree.bytes s)) = length s
 head_text_bytes _ = 0
 
--- the bytes of all texts and runs of bytes
+-- the number of bytes of all texts and runs of bytes
 abbrev pub entries_text_bytes : List Entry → ℕ
 entries_text_bytes [] = 0
 entries_text_bytes (e ∷ es) = head_text_bytes e.head + entries_text_bytes es
 
--- the open nodes that are whole are closed, the innermost first; the root's own part stays
+-- open nodes that are complete are closed, the innermost first; the root's part stays
 abbrev pub settled_in : List OpenPart → List OpenPart
 settled_in [] = []
 settled_in (f ∷ []) = f ∷ []
@@ -74,7 +72,7 @@ settled_in (f ∷ g ∷ fs) =
 abbrev pub settled_walk : Walked → Walked
 settled_walk w = record { types = w.types; limit = w.limit; frames = settled_in w.frames }
 
--- no node that is whole is open
+-- no open node is complete
 abbrev pub IsSettled : Walked → Type 0
 IsSettled w = settled_walk w ≡ w
 
@@ -82,7 +80,7 @@ IsSettled w = settled_walk w ≡ w
 abbrev pub closings : List OpenPart → ℕ
 closings fs = length fs - length (settled_in fs)
 
--- the same of a value that is being built: each turn closes one node
+-- the same for a value that is being built: each turn closes one node
 abbrev pub settled : Built → Built
 settled b = record {
   ty = b.ty;
@@ -92,8 +90,7 @@ settled b = record {
   turns = b.turns + closings b.walk.frames;
 }
 
--- each turn closed a node, and each node is open still, was closed in one turn, or never had parts
--- to wait for
+-- each turn closed a node, so turns and open nodes together are at most as many as the nodes
 abbrev pub HasFewTurns : Built → Type 0
 HasFewTurns b = b.turns + (length b.walk.frames - 1) ≤ length b.entries
 
@@ -101,11 +98,11 @@ abbrev pub type_or_0 : Option ℕ → ℕ
 type_or_0 (Some t) = t
 type_or_0 None = 0
 
--- the next type has this node
+-- this node, with the next type
 abbrev pub next_entry : Built → Head → Entry
 next_entry b h = record { ty = type_or_0 (next_type b.walk); head = h }
 
--- the value with a node without children, which is next
+-- the value with this node added, which has no children
 abbrev pub with_leaf : Built → Head → Built
 with_leaf b h = settled (record b {
   walk = advanced b.walk;
@@ -113,7 +110,7 @@ with_leaf b h = settled (record b {
       b.entries ++ next_entry b h ∷ [];
 })
 
--- the value with a node whose children come next
+-- the value with this node added, whose children come next
 abbrev pub with_open : Built → Head → Part → Built
 with_open b h p = settled
     (record b {
@@ -127,7 +124,7 @@ abbrev pub IsLeaf : Head → Type 0
 IsLeaf (head.branch k n) = ⊥
 IsLeaf _ = Unit {0}
 
--- the next type has the value that this node is by itself, and there is room for it
+-- this node by itself is a value of the next type, and the depth limit allows it
 pub record IsNextLeaf (w : Walked) (h : Head) : Type 0 where
   pub ty : ℕ
   pub next : next_type w ≡ Some ty
@@ -137,7 +134,7 @@ pub record IsNextLeaf (w : Walked) (h : Head) : Type 0 where
   pub are_bytes : AreBytes own
   pub value : Val w.types ty (tree_with h none) own
 
--- the next type has a node of this kind, whose children these parts are, and there is room for it
+-- the next type has a node of this kind with these children, and the depth limit allows it
 pub record IsNextOpen (w : Walked) (h : Head) (p : Part) : Type 0 where
   pub ty : ℕ
   pub next : next_type w ≡ Some ty
@@ -149,7 +146,7 @@ pub record IsNextOpen (w : Walked) (h : Head) (p : Part) : Type 0 where
   pub finite : is_finite w.types ty ≡ true
   pub opens : BranchOpens (layout w.types ty) kind own p
 
--- the fields, the arm of an index, or so many elements, of the next type
+-- the layout of the next type, by which its fields, an arm or elements are opened
 abbrev pub next_layout : Built → Layout
 next_layout b = layout b.walk.types (type_or_0 (next_type b.walk))
 
@@ -157,7 +154,7 @@ abbrev pub with_fields : Built → Built
 with_fields b = let p = fields_part (next_layout b) in
     with_open b (head.branch tree.fields (how_many_left p)) p
 
--- the first arm of the index, in a layout that has arms
+-- the first arm with this index, if the layout has arms
 abbrev pub arm_in : Layout → ℕ → Option (ℕ × Arm)
 arm_in (layout.arms arms) index = arm_of arms index
 arm_in _ index = None
@@ -170,7 +167,7 @@ with_found b None = b
 abbrev pub with_arm : Built → ℕ → Built
 with_arm b index = with_found b (arm_in (next_layout b) index)
 
--- the arm at a position, of the index that it has, in a definition with such an arm
+-- the value with the arm of this index; unchanged if there is no index
 abbrev pub with_index : Built → Option ℕ → Built
 with_index b (Some index) = with_arm b index
 with_index b None = b
@@ -183,7 +180,7 @@ with_list b n = with_open b (head.branch tree.list n) (list_part (next_layout b)
 
 -- ---- a run in pieces
 
--- the length is one that a run of this kind may have: an array's is known
+-- a run of this kind may have this length, which is fixed for an array
 abbrev pub FitsKind : RunKind → ℕ → Type 0
 FitsKind (kind.ByteArray n) len = len ≡ n
 FitsKind _ len = Unit {0}
@@ -196,7 +193,7 @@ abbrev pub with_run_opened : Built → RunKind → ℕ → Built
 with_run_opened b k len =
     record b { run = Some (record { kind = k; len = len; bytes = [] }) }
 
--- which run of bytes is next
+-- the kind of the run of bytes that is next
 abbrev pub bytes_kind : Next → RunKind
 bytes_kind (next.Wants (form.ByteArray n)) = kind.ByteArray n
 bytes_kind _ = kind.Bytes
@@ -210,24 +207,24 @@ with_piece b piece = record b {
       option_map (λ t. record { kind = t.kind; len = t.len; bytes = t.bytes ++ piece }) b.run;
 }
 
--- the node that the open run is
+-- the node that the open run becomes
 abbrev pub run_head : Option Pieces → Head
 run_head (Some t) = head.leaf (run_leaf t.kind t.bytes)
 run_head None = head.leaf tree.unit
 
--- the run that came is the next node
+-- the open run is added as the next node
 abbrev pub with_run_ended : Built → Built
 with_run_ended b = with_leaf (record b { run = None }) (run_head b.run)
 
--- the same where a run is open; where none is, nothing is added
+-- the same if a run is open; otherwise nothing is added
 abbrev pub with_run_closed : Built → Built
 with_run_closed b = elim b.run [ Some t ↦ with_run_ended b | None ↦ b ]
 
--- the bytes of all texts and runs of bytes, those of the open one too
+-- the number of bytes of all texts and runs of bytes, including the open one
 abbrev pub built_text_bytes : Built → ℕ
 built_text_bytes b = entries_text_bytes b.entries + length (pieces_bytes b.run)
 
--- the value that is handed out
+-- the finished value
 abbrev pub finished : Built → Seen
 finished b = record {
   types = b.walk.types;

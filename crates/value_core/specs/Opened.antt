@@ -16,11 +16,11 @@ abbrev pub shape_at : List TypeInfo → Option ℕ → Option TypeDef
 shape_at r (Some t) = shape r t
 shape_at r None = None
 
--- what the next type is made of
+-- the definition of the next type
 abbrev pub next_shape : Walked → Option TypeDef
 next_shape w = shape_at w.types (next_type w)
 
--- a value of each field or member of the next type
+-- the part is a value of each field or member of the next type
 pub record OpensFields (w : Walked) (part : Part) : Type 0 where
   pub ty : ℕ
   pub next : next_type w ≡ Some ty
@@ -28,7 +28,7 @@ pub record OpensFields (w : Walked) (part : Part) : Type 0 where
   pub laid : layout w.types ty ≡ layout.fields members
   pub part_is : part ≡ each members
 
--- the first arm of the index, with its position, and a value of each of its fields
+-- the first arm with this index, if any: its position, and a value of each of its fields
 pub record OpensArm (w : Walked) (index : ℕ) (found : Option (ℕ × Part)) : Type 0 where
   pub ty : ℕ
   pub next : next_type w ≡ Some ty
@@ -36,11 +36,11 @@ pub record OpensArm (w : Walked) (index : ℕ) (found : Option (ℕ × Part)) : 
   pub laid : layout w.types ty ≡ layout.arms arms
   pub found_is : found ≡ option_map (λ x. (x.0, each (field_types x.1.fields))) (arm_of arms index)
 
--- an array of this length is next, or a sequence
+-- an array of this length or a sequence is next
 abbrev pub IsListNext : Walked → ℕ → Type 0
 IsListNext w n = (next_of w ≡ next.Wants (form.Array n)) ⊎ (next_of w ≡ next.Wants form.Sequence)
 
--- so many elements of the next type, an array of this length or a sequence
+-- `count` elements of the next type, which is an array of this length or a sequence
 pub record OpensElements (w : Walked) (count : ℕ) (part : Part) : Type 0 where
   pub ty : ℕ
   pub next : next_type w ≡ Some ty

@@ -1,4 +1,4 @@
--- Which call a builder refuses, and with what: the first reason that applies.
+-- Which calls a builder rejects, and with what: the first reason that applies.
 use Rattle.std.specs.Prelude.{◌≡◌, ℕ, ◌+◌, ◌-◌, ◌/◌, ◌^◌, ℤ, pos, negsuc, List, [], ◌∷◌, length}
 use Rattle.std.specs.Prelude.{Bool}
 use Rattle.std.specs.Prelude.{true, false, Option, Some, None, Result, Ok, Err, nat_lt, ◌==◌, not}
@@ -38,7 +38,7 @@ build_fault_of stop.NoFiniteValue = fault.NoFiniteValue
 build_fault_of stop.BitSequence = fault.BitSequence
 build_fault_of stop.BadCompact = fault.BadCompact
 
--- the refusal of a call that is not the one for what comes next
+-- the fault of a call that doesn't suit what comes next
 abbrev pub other_fault : Next → BuildFault
 other_fault (next.Stop r) = build_fault_of r
 other_fault _ = fault.WrongKind
@@ -46,7 +46,7 @@ other_fault _ = fault.WrongKind
 abbrev pub wrong : Option BuildFault
 wrong = Some fault.WrongKind
 
--- the form of what comes next for a call that adds a whole node: there is none while a run is open
+-- the form of what comes next, for a complete node: it is rejected while a run is open
 abbrev pub while_closed : Option Pieces → Form → Result Form BuildFault
 while_closed None f = Ok f
 while_closed (Some t) f = Err fault.WrongKind
@@ -59,7 +59,7 @@ wanted_from run (next.Stop r) = Err (build_fault_of r)
 abbrev pub wanted_of : Built → Result Form BuildFault
 wanted_of b = wanted_from b.run (next_of b.walk)
 
--- what comes next is the first to be judged, and then whether the call suits its form
+-- a call is judged first by what comes next, and then by whether it suits that form
 abbrev pub judged : (Form → Option BuildFault) → Built → Option BuildFault
 judged suits b = elim (wanted_of b) [ Ok f ↦ suits f | Err e ↦ Some e ]
 
@@ -82,7 +82,7 @@ abbrev pub suits_text : List ℕ → Form → Option BuildFault
 suits_text s (form.Primitive P.Str) = in_range (nat_lt (length s) (2 ^ 32))
 suits_text s _ = wrong
 
--- the greatest number of an unsigned integer of at most sixteen bytes
+-- the greatest unsigned integer of this width
 abbrev pub most_unsigned : IntegerWidth → ℕ
 most_unsigned w = 256 ^ width_bytes w - 1
 
@@ -101,7 +101,7 @@ abbrev pub suits_unsigned : ℕ → Form → Option BuildFault
 suits_unsigned n (form.Primitive p) = up_to n (greatest_unsigned p)
 suits_unsigned n _ = wrong
 
--- the greatest number of a signed integer of at most sixteen bytes
+-- the greatest signed integer of this width
 abbrev pub most_signed : IntegerWidth → ℕ
 most_signed w = 256 ^ width_bytes w / 2 - 1
 
@@ -112,7 +112,7 @@ signed_kind _ = None
 abbrev pub greatest_signed : Primitive → Option ℕ
 greatest_signed p = signed_kind (kind_of p)
 
--- a number up to the greatest, or down to one further below 0
+-- a number from -(most + 1) to most
 abbrev pub is_within : ℤ → ℕ → Bool
 is_within (pos n) most = not (nat_lt most n)
 is_within (negsuc n) most = not (nat_lt most n)
@@ -169,12 +169,12 @@ suits_arm found _ = wrong
 abbrev pub judged_arm : Built → ℕ → Option BuildFault
 judged_arm b index = judged (suits_arm (arm_in (next_layout b) index)) b
 
--- a composite or a tuple of so many fields or members
+-- a composite or a tuple of n fields or members
 abbrev pub suits_fields_of : Built → ℕ → Form → Option BuildFault
 suits_fields_of b n form.Fields = in_range (how_many_left (fields_part (next_layout b)) == n)
 suits_fields_of b n _ = wrong
 
--- the first arm of an index is the one at a position, and has so many fields
+-- the first arm of an index must be the one at position q, and have n fields
 abbrev pub placed_fault : ℕ → ℕ → Option (ℕ × Arm) → Option BuildFault
 placed_fault q n (Some found) =
     if found.0 == q then in_range (length found.1.fields == n) else Some fault.NoSuchVariant
@@ -208,12 +208,12 @@ suits_bytes_start len form.Bytes = None
 suits_bytes_start len (form.ByteArray n) = in_range (n == len)
 suits_bytes_start len _ = wrong
 
--- a run is open, and lacks so many bytes
+-- a run is open, and `missing` bytes of it are missing
 abbrev pub Lacks : Option Pieces → ℕ → Type 0
 Lacks (Some t) missing = length t.bytes + missing ≡ t.len
 Lacks None missing = ⊥
 
--- what the open run is, and how many bytes it lacks
+-- the kind of the open run, and how many bytes it lacks
 abbrev pub missing_from : Option Pieces → Result (RunKind × ℕ) BuildFault
 missing_from (Some t) = Ok (t.kind, t.len - length t.bytes)
 missing_from None = Err fault.WrongKind
@@ -226,11 +226,11 @@ missing_at run (next.Stop r) = Err (build_fault_of r)
 abbrev pub missing_of : Built → Result (RunKind × ℕ) BuildFault
 missing_of b = missing_at b.run (next_of b.walk)
 
--- the open run lacks nothing
+-- the open run lacks no bytes
 abbrev pub IsRunComplete : Built → Type 0
 IsRunComplete b = (k : RunKind) × (missing_of b ≡ Ok (k, 0))
 
--- how many bytes the open run lacks, where it is a text, and where it is a run of bytes
+-- how many bytes the open run lacks, if it is a text; and, below, if it is a run of bytes
 abbrev pub of_text : RunKind → ℕ → Result ℕ BuildFault
 of_text kind.Text n = Ok n
 of_text _ n = Err fault.WrongKind
@@ -245,12 +245,12 @@ of_bytes _ n = Ok n
 abbrev pub missing_bytes : Built → Result ℕ BuildFault
 missing_bytes b = elim (missing_of b) [ Ok m ↦ of_bytes m.0 m.1 | Err e ↦ Err e ]
 
--- a piece of a run that lacks so many bytes
+-- the fault of a piece, by how many bytes the run lacks
 abbrev pub judged_piece : Result ℕ BuildFault → List ℕ → Option BuildFault
 judged_piece missing piece = elim missing
     [ Ok n ↦ in_range (not (nat_lt n (length piece))) | Err e ↦ Some e ]
 
--- how long the longest valid front of a text is that is not UTF-8; a run of bytes may be any
+-- the length of the longest valid front of a text that isn't UTF-8; a run may have any bytes
 abbrev pub bad_bytes : RunKind → List ℕ → Option ℕ
 bad_bytes kind.Text s = if is_utf8 s then None else Some (utf8_valid_len s)
 bad_bytes _ s = None
@@ -262,22 +262,22 @@ bad_text None = None
 abbrev pub run_fault : Option Pieces → Option BuildFault
 run_fault run = option_map fault.BadText (bad_text run)
 
--- the end of a run that lacks so many bytes: those first, and then bytes that are no text
+-- the fault of ending a run: first that bytes are missing, and then that they aren't UTF-8
 abbrev pub judged_end : Result ℕ BuildFault → Built → Option BuildFault
 judged_end missing b = elim missing [
   | Ok n ↦ if nat_lt 0 n then Some fault.UnfinishedValue else run_fault b.run
   | Err e ↦ Some e
 ]
 
--- where no refusal applies the value is the one with the node, unless an allocation fails; and
--- after a refusal it is as it was
+-- if no fault applies, the new value is the one with the node, unless an allocation failed; after a
+-- fault the value is unchanged
 abbrev pub Adds : Option BuildFault → Built → Built → Built → Result (Unit {0}) BuildFault → Type 0
 Adds None with old new (Ok _) = new ≡ with
 Adds None with old new (Err e) = (e ≡ fault.OutOfMemory) × (new ≡ old)
 Adds (Some f) with old new (Ok _) = ⊥
 Adds (Some f) with old new (Err e) = (e ≡ f) × (new ≡ old)
 
--- a builder of a type: an id that is no position first, and then a depth limit above 1024
+-- why no builder of a type is made: the id is no position, or else the depth limit is above 1024
 abbrev pub build_opening_fault : List TypeInfo → ℕ → ℕ → Option BuildFault
 build_opening_fault types ty depth =
     if not (nat_lt ty (length types)) then Some fault.UnknownType else in_range
@@ -297,7 +297,7 @@ is_whole_in _ = false
 abbrev pub is_complete : Built → Bool
 is_complete b = is_whole_in b.walk.frames
 
--- the value, where nothing is missing, and else the builder as it was
+-- the value if nothing is missing, and otherwise the fault and the unchanged builder
 abbrev pub Finishes : Bool → Seen → Built → Result Seen (BuildFault × Built) → Type 0
 Finishes true value old (Ok v) = v ≡ value
 Finishes true value old (Err e) = ⊥

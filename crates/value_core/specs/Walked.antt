@@ -1,4 +1,4 @@
--- What contracts see of a walk through a value, and what is next there.
+-- What contracts see of a walk through a value, and what comes next in it.
 use Rattle.std.specs.Prelude.{◌≡◌, ◌≢◌, ℕ, ◌+◌, ◌-◌, ◌≤◌, List, [], ◌∷◌, length, Option, Some, None}
 use Rattle.std.specs.Prelude.{Bool, false, nat_lt, if◌then◌else◌}
 use Rattle.registry_core.specs.declared.type_info.TypeInfo.{TypeInfo}
@@ -9,25 +9,25 @@ use Rattle.grammar_core.specs.declared.form.StopReason.TheVariants as stop
 use Rattle.grammar_core.specs.declared.form.Next.{Next}
 use Rattle.grammar_core.specs.declared.form.Next.TheVariants as next
 
--- a node that is open, by its place among the nodes, and what is left of its parts
+-- an open node, by its place among the nodes, and its remaining parts
 pub record OpenPart : Type 0 where
   pub node : ℕ
   pub left : Part
 
--- a walk through a value of these types, down to this depth: what is open, the innermost first, and
--- last the root's own part
+-- a walk through a value of these types, down to this depth: the open parts, the innermost first
+-- and the root's part last
 pub record Walked : Type 0 where
   pub types : List TypeInfo
   pub limit : ℕ
   pub frames : List OpenPart
 
--- nothing is there yet, and one value of the root's type is to come; the root's own part is no
--- node's, and stands at place 0
+-- no node is there yet, and one value of the root's type is to come; the root's part belongs to no
+-- node and has the place 0
 abbrev pub start_of : List TypeInfo → ℕ → ℕ → Walked
 start_of types root limit =
     record { types = types; limit = limit; frames = record { node = 0; left = times 1 root } ∷ [] }
 
--- the root's own part is there, and no more parts than there are depths within the limit and two
+-- the limit is at most 1024, the root's part is there, and there are at most limit + 2 parts
 pub record IsBounded (w : Walked) : Type 0 where
   pub limit : w.limit ≤ 1024
   pub rooted : 1 ≤ length w.frames
@@ -41,7 +41,7 @@ first_in (o ∷ os) = first_of o.left
 abbrev pub next_type : Walked → Option ℕ
 next_type w = first_in w.frames
 
--- the innermost open node is a list, or none is open, and the root's own part is left
+-- whether the innermost open node is a list, or only the root's part is left
 abbrev pub is_list_in : List OpenPart → Bool
 is_list_in [] = false
 is_list_in (o ∷ os) = have_one_type o.left
@@ -59,11 +59,11 @@ abbrev pub depth_from : ℕ → Option ℕ → ℕ
 depth_from open_parts (Some t) = open_parts - 1
 depth_from open_parts None = 0
 
--- the depth of the next node, and 0 where nothing is next
+-- the depth of the next node, or 0 if nothing is next
 abbrev pub depth_of : Walked → ℕ
 depth_of w = depth_from (length w.frames) (next_type w)
 
--- too deep first, then whether there is a value at all, then its form
+-- what comes next: first whether it is too deep, then whether its type has a value, then its form
 abbrev pub next_from : Walked → Option ℕ → Next
 next_from w None = next.Finished
 next_from w (Some t) = if nat_lt (w.limit + 1) (length w.frames) then next.Stop stop.TooDeep else
@@ -72,7 +72,7 @@ next_from w (Some t) = if nat_lt (w.limit + 1) (length w.frames) then next.Stop 
 abbrev pub next_of : Walked → Next
 next_of w = next_from w (next_type w)
 
--- the next node is no longer left in the innermost part
+-- the next node is taken off the innermost part
 abbrev pub advanced_in : List OpenPart → List OpenPart
 advanced_in [] = []
 advanced_in (o ∷ os) = record { node = o.node; left = left_after o.left } ∷ os
@@ -89,7 +89,7 @@ opened w node part = record {
       record { node = node; left = part } ∷ w.frames;
 }
 
--- nothing is left of the innermost part, which is this node's and not the root's, and it is gone
+-- the innermost part, which is this node's and not the root's, had nothing left and is removed
 pub record Closes (old new : Walked) (node : ℕ) : Type 0 where
   pub part : Part
   pub whole : first_of part ≡ None

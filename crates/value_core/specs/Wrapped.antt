@@ -1,4 +1,4 @@
--- A composite or tuple that is added together with its one part.
+-- A composite or tuple that is added together with its only part.
 use Rattle.std.specs.Prelude.{◌≡◌, ℕ, ◌^◌, ◌<◌, ◌≤◌, List, [], ◌∷◌, length, take}
 use Rattle.grammar_core.specs.Parts.{each}
 use Rattle.grammar_core.specs.Preorder as head
@@ -10,15 +10,15 @@ use Rattle.value_core.specs.Built.{Built, with_fields, with_leaf}
 use Rattle.value_core.specs.Opened.{OpensFields}
 use Rattle.value_core.specs.Walked.{Walked, advanced, next_of, opened}
 
--- the composite or tuple that is next has one part, of this type: an array of so many u8
+-- a composite or tuple is next whose only part, of this type, is an array of `len` u8
 pub record WrapsArray (w : Walked) (part len : ℕ) : Type 0 where
   pub few : len < 2 ^ 32
   pub opens : OpensFields w (each (part ∷ []))
   pub array : (place : ℕ) → next_of (opened (advanced w) place (each (part ∷ [])))
       ≡ next.Wants (form.ByteArray len)
 
--- it has one part, an array of so many u8: between the two a begun tree would be held, of which the
--- array is next; both were added, the array as the first of these bytes
+-- both were added: the composite or tuple, after which a begun tree is held and an array of `len`
+-- u8 is next, and then the array with the first `len` of these bytes
 pub record Wraps (old new : Built) (bytes : List ℕ) (len : ℕ) : Type 0 where
   pub begun : IsBegun (with_fields old)
   pub wants : next_of (with_fields old).walk ≡ next.Wants (form.ByteArray len)
