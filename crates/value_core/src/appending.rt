@@ -43,8 +43,8 @@ fn make_room<A: Allocator>(
     walk.make_room(nodes, pool)
 }
 
-/// Appends a node without children, and to the pool what does not fit it: both, or where memory is
-/// refused neither.
+/// Appends a node without children, and to the pool what does not fit it: both, or
+/// neither if an allocation fails.
 #[inline(always)]
 pub(crate) fn append<A: Allocator>(
     nodes: &mut GrowVec<Node, A>,
