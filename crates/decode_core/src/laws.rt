@@ -32,12 +32,12 @@ pub fn outcome_is_computed()
     ensures { OutcomeIsComputed }
 {}
 
-/// What is taken where a value is refused is the shortest front that is refused so.
+/// The bytes taken at a fault are the shortest front that is rejected with it.
 pub fn taken_is_shortest()
     ensures { TakenIsShortest }
 {}
 
-/// Where a begun tree is held, bytes are missing, and there is no other.
+/// If a begun tree is held, bytes are missing, and there is no other.
 pub fn begun_is_missing()
     ensures { BegunIsMissing }
 {}
@@ -57,12 +57,12 @@ pub fn one_begun()
     ensures { OneBegun }
 {}
 
-/// What is taken where a value is refused, by the fault alone.
+/// How many bytes are taken at a fault follows from the fault alone.
 pub fn taken_by_fault()
     ensures { TakenByFault }
 {}
 
-/// More is wanted exactly where a begun tree is held.
+/// More bytes are needed exactly if a begun tree is held.
 pub fn more_holds()
     ensures { MoreHolds }
 {}
@@ -72,7 +72,7 @@ pub fn fault_is_begun()
     ensures { FaultIsBegun }
 {}
 
-/// Where memory was wanted, more bytes are wanted and one is there, or a further node is read.
+/// If memory ran out, more bytes are needed and one is there, or a further node is read.
 pub fn wanted_goes_on()
     ensures { WantedGoesOn }
 {}

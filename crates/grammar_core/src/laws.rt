@@ -72,7 +72,7 @@ pub fn finite_has_value()
     ensures { FiniteHasValue }
 {}
 
-/// A list of parts is rejected exactly where its next part is.
+/// A list of parts is rejected exactly if its next part is.
 pub fn parts_fail()
     ensures { PartsFail }
 {}

@@ -12,9 +12,9 @@ use crate::node::Node;
 #[derive(Clone, Copy)]
 pub struct Remaining {
     pub count: u32,
-    /// The type of all of them, by its number, where they have one.
+    /// The type of all of them, by its number, if they have one type.
     pub element: u32,
-    /// 0 where they have one type. Else each part has the type that a reference of its own names.
+    /// 0 if they have one type. Otherwise each part has the type that its own reference names.
     /// These references follow one another, and this is one more than the number after the last of
     /// theirs.
     pub end: usize,

@@ -1,4 +1,4 @@
-//! Why the command has no answer: the faults of the parts of a job, and the refusal of the whole,
+//! Why the command has no answer: the faults of the parts of a job, and the refusal of the job,
 //! which determines the line on standard error and the exit status.
 
 ghost use Rattle.std.specs.Prelude.{◌≡◌, IfNone, IfSome};

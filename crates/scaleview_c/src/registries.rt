@@ -70,7 +70,7 @@ pub extern "C" fn scaleview_open(
 /// Gives back the box of a registry that no session uses.
 pub fn close_in<K: Keeper>(alloc: Global, keeper: &mut K, registry: &mut Handle) -> u32
     ensures closed { ClosesRegistry registry.old.value registry.new.value result }
-    // LENT exactly where a session has it, and then nothing changes.
+    // LENT exactly if a session has it, and then nothing changes.
     ensures given_back { GivesRegistry K.counts K.takes keeper.old registry.old.value
         keeper.new result }
 {

@@ -21,8 +21,8 @@ use node_core::{Content, Leaf, Node, Remaining};
 use registry_core::TypeId;
 use std::alloc::{AllocError, Allocator};
 
-/// Makes room for one more node of a walk: where there is none, ahead for others too, and for the
-/// bytes beside them.
+/// Makes room for one more node of a walk. If there is none, it also reserves for further nodes and
+/// for their bytes.
 ///
 /// # Errors
 ///
@@ -87,7 +87,7 @@ pub(crate) fn append_node<A: Allocator>(
     Ok(())
 }
 
-/// Closes the innermost open node where it is whole: was one closed?
+/// Closes the innermost open node if it is complete, and returns whether one was closed.
 #[inline(always)]
 fn close_one<A: Allocator>(walk: &mut Walk<'_, A>, nodes: &mut GrowVec<Node, A>) -> bool
     requires { AreBuilt walk.old nodes.old.list.items }
@@ -106,7 +106,7 @@ fn close_one<A: Allocator>(walk: &mut Walk<'_, A>, nodes: &mut GrowVec<Node, A>)
     true
 }
 
-/// Closes the open nodes that are whole, one in each turn, and counts the turns.
+/// Closes the open nodes that are complete, one in each turn, and counts the turns.
 #[inline(never)]
 fn close_whole<A: Allocator>(
     walk: &mut Walk<'_, A>,
@@ -123,8 +123,8 @@ fn close_whole<A: Allocator>(
     }
 }
 
-/// Closes the open nodes that are whole. After most nodes something is next in the innermost one,
-/// and then none is.
+/// Closes the open nodes that are complete. After most nodes something is next in the innermost
+/// one, and then none is.
 #[inline(always)]
 pub(crate) fn close_complete<A: Allocator>(
     walk: &mut Walk<'_, A>,

@@ -82,9 +82,9 @@ impl Checked {
         // Every reference of what is accepted is a position.
         ensures checked { IfOk result (λ _. IsChecked registry) }
         // The reference that is reported is the first that is no position; memory is reported only
-        // where there is none.
+        // if there is none.
         ensures explained { IfErr result (λ refused. Explains registry refused.0) }
-        // Where it is accepted, these are the looks that were taken: each type was looked at once
+        // If it is accepted, these are the looks that were taken: each type was looked at once
         // at least and twice at most, and each reference likewise.
         ensures looked { IfOk result (λ c. HasFewLooks registry c.looks) }
     {
