@@ -1,4 +1,4 @@
-//! Budgets in use: what they refuse, when bytes are back, and who shares them.
+//! Budgets in use: which requests fail, when bytes are available again, and how clones share them.
 
 use crate::Budget;
 use std::alloc::{AllocError, Allocator};
@@ -25,8 +25,8 @@ fn numbers<A: Allocator + Clone>(
     Ok(list)
 }
 
-/// Stops the test unless the budget serves a block of this many bytes exactly if `wanted` says so.
-/// The block is freed at once.
+/// Stops the test unless `wanted` says whether the budget serves a block of this many bytes. The
+/// block is freed at once.
 fn serves<A: Allocator + Clone>(rt: &impl Abort, budget: &Budget<A>, bytes: usize, wanted: bool) {
     assert_eq!(rt; block(budget, bytes).is_ok(), wanted, "{bytes} bytes");
 }

@@ -1,4 +1,4 @@
-//! Builders whose allocations fail: the error, that nothing changes, and that the same call
+//! Builders whose allocations fail: the error is reported, nothing changes, and the same call
 //! succeeds later.
 
 use crate::expect::same;
@@ -45,8 +45,8 @@ const MIXED_CALLS: [Call<'static>; 18] = [
 const MIXED_BYTES: &[u8] =
     b"\x08ab\x0c\x01\x02\x03\x07\x07\x07\x07\x07\x07\x07\x07\x07\x07\x07\x07\x07\x07\x07\x07\x07\x07\x07\x07\x07\x07\x07\x07\x07\x07\x07\x07\x07\x07\x07\x07\x01\x01\x01\x01\x01\x00\x10\xc3\xa9\xc3\xa9";
 
-/// A registry, a type, a call that allocates between the calls before and after it, and the bytes
-/// of the value that they build.
+/// A registry, a type, the calls before the tested one, the tested call, the calls after it, and
+/// the bytes of the built value.
 type Row = (
     &'static [u8],
     u32,
@@ -58,8 +58,8 @@ type Row = (
 
 const I8: &[u8] = b"\x04\x00\x00\x00\x05\x09\x00";
 
-/// Each kind of call that allocates, where the builder has no capacity yet for what it adds. The
-/// calls that begin a text or a run of bytes don't allocate.
+/// Every kind of call that allocates, on a builder without capacity for what it adds. The calls
+/// that begin a text or a run of bytes don't allocate.
 const ROWS: [Row; 20] = [
     (UNITS, 1, &[], Call::Empty, &[], b""),
     (COMPACT_OF_A_BOOL, 0, &[], Call::Bool(true), &[], b"\x01"),
@@ -164,7 +164,7 @@ pub(crate) fn check_refusal<A: Allocator>(
     same(rt, what_stands(builder), before);
 }
 
-/// Makes the call, and once more if its allocation fails. Returns whether it fails.
+/// Makes the call, and repeats it if its allocation fails. Returns whether it failed.
 fn add_twice<A: Allocator>(rt: &impl Abort, builder: &mut Builder<'_, A>, call: Call<'_>) -> bool {
     let before = what_stands(builder);
     match add(builder, call) {
@@ -177,7 +177,7 @@ fn add_twice<A: Allocator>(rt: &impl Abort, builder: &mut Builder<'_, A>, call: 
     }
 }
 
-/// Makes the calls, and those again whose allocation fails. Returns how many fail.
+/// Makes the calls, and repeats each one whose allocation fails. Returns how many failed.
 fn add_all_twice<A: Allocator>(
     rt: &impl Abort,
     builder: &mut Builder<'_, A>,
@@ -192,7 +192,8 @@ fn add_all_twice<A: Allocator>(
     refused
 }
 
-/// Builds a value where one allocation fails. Returns how many calls report it.
+/// Builds the value of [`MIXED_CALLS`] with this allocator. Returns how many calls report a failed
+/// allocation.
 fn refused_calls<A: Allocator + Clone>(
     rt: &impl Abort,
     alloc: Global,
@@ -207,8 +208,8 @@ fn refused_calls<A: Allocator + Clone>(
     Ok(refused)
 }
 
-/// Builds a value where this request fails. One call reports it, and nothing stays allocated.
-/// Returns whether the request is made.
+/// Builds a value while this request fails. Checks that one call reports the failure and that
+/// nothing stays allocated. Returns whether the request was made.
 fn is_requested(
     rt: &impl Abort,
     alloc: Global,
@@ -224,7 +225,7 @@ fn is_requested(
     Ok(is_made)
 }
 
-// Nodes, the bytes of texts and the open nodes are kept apart, and each grows at least once.
+// Nodes, bytes of texts and open nodes are stored separately, and each store grows at least once.
 #[test]
 fn a_failed_allocation_changes_nothing(rt: HostRuntime) -> Result<(), Fail> {
     let checked = checked(rt.alloc(), MIXED)?;
@@ -238,7 +239,8 @@ fn a_failed_allocation_changes_nothing(rt: HostRuntime) -> Result<(), Fail> {
     Err("an allocation of each run fails")?
 }
 
-/// Builds the row's value where one allocation fails. Returns whether the row's call reports it.
+/// Builds the row's value with this allocator. Returns whether the row's call reports a failed
+/// allocation.
 fn is_refused<A: Allocator + Clone>(
     rt: &impl Abort,
     alloc: Global,
@@ -317,7 +319,7 @@ fn bad_text_is_reported_before_a_failed_allocation(rt: HostRuntime) -> Result<()
     Ok(())
 }
 
-// Only the node is requested: the greatest integer of 64 bits has no bytes beside it.
+// Only the node is allocated: the greatest integer of 64 bits needs no bytes outside its node.
 #[test]
 fn an_integer_of_64_bits_stands_in_its_node(rt: HostRuntime) -> Result<(), Fail> {
     let checked = checked(rt.alloc(), U128)?;
@@ -328,7 +330,7 @@ fn an_integer_of_64_bits_stands_in_its_node(rt: HostRuntime) -> Result<(), Fail>
     Ok(())
 }
 
-// A builder allocates its nodes and its bytes through a clone each of its allocator.
+// A builder clones its allocator twice, for its nodes and for its bytes.
 #[test]
 fn a_builder_without_memory_is_not_made(rt: HostRuntime) -> Result<(), Fail> {
     let checked = checked(rt.alloc(), U8)?;

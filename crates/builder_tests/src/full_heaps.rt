@@ -1,4 +1,4 @@
-//! Builders on heaps that are full, and on heaps that hold no more than what came.
+//! Builders on full heaps, and on heaps that are too small for a claimed length.
 
 use crate::builder_memory::check_refusal;
 use crate::expect::same;
@@ -12,7 +12,8 @@ use std::test::Fail;
 use value_core::{BuildFault, Builder};
 use widths_core::Checked;
 
-/// A registry, a type, a call that opens a value of it, and one that fills a heap.
+/// A registry, a type, a call that opens a value of the type, and a call that fills a heap if it is
+/// repeated.
 type Row = (&'static [u8], u32, Call<'static>, Call<'static>);
 
 const ROWS: [Row; 3] = [
@@ -31,7 +32,8 @@ const ROWS: [Row; 3] = [
     ),
 ];
 
-/// Makes the call until it fails. Returns the error, and what the builder reported before it.
+/// Repeats the call until it fails. Returns the error, and what the builder reported before that
+/// call.
 fn first_refusal(
     builder: &mut Builder<'_, &LocalHeap>,
     call: Call<'_>,
@@ -45,7 +47,7 @@ fn first_refusal(
     None
 }
 
-/// Makes the call until it fails, and checks that this changes nothing.
+/// Repeats the call until it fails, and checks that the failed call changes nothing.
 fn fill(
     rt: &impl Abort,
     builder: &mut Builder<'_, &LocalHeap>,
@@ -60,8 +62,8 @@ fn fill(
     }
 }
 
-/// Fills a heap of this size, of which something else holds all but an eighth, and checks that the
-/// call that failed succeeds once that is free.
+/// Fills a heap of this size, of which another vector holds seven eighths. Checks that the call
+/// that failed succeeds once that vector is freed.
 fn check_full_heap(
     rt: &impl Abort,
     alloc: Global,
@@ -120,7 +122,7 @@ const CLAIMS: [Claim; 2] = [
     ),
 ];
 
-/// The calls fit a small heap.
+/// Checks that the calls succeed on a small heap, and the counts that the builder then reports.
 fn check_claim(
     rt: &impl Abort,
     alloc: Global,
@@ -136,7 +138,7 @@ fn check_claim(
     Ok(())
 }
 
-// The heap holds what came, and not what the length claims.
+// Memory is allocated for what was added, not for the claimed length.
 #[test]
 fn a_claimed_length_takes_no_memory(rt: HostRuntime) -> Result<(), Fail> {
     'claims: for (registry, calls, wanted) in CLAIMS {

@@ -1,4 +1,4 @@
-//! Texts and runs of bytes that come to a builder in pieces: their counts, and a long piece.
+//! Texts and runs of bytes that are added to a builder in pieces: their counts, and a long piece.
 
 use crate::expect::same;
 use scale_tests::builders::{add_all, begun, counts, finished};
@@ -11,7 +11,7 @@ use std::test::Fail;
 /// A call, and how many nodes and bytes of texts and runs the builder holds after it.
 type Step = (Call<'static>, u64, u64);
 
-/// Calls on a tuple of two texts.
+/// Calls that build a tuple of two texts.
 const OF_TEXTS: [Step; 8] = [
     (Call::Fields, 1, 0),
     (Call::Text("ab"), 2, 2),
@@ -23,7 +23,7 @@ const OF_TEXTS: [Step; 8] = [
     (Call::TextEnd, 3, 6),
 ];
 
-/// Calls on a tuple of a text and an array of three bytes.
+/// Calls that build a tuple of a text and an array of three bytes.
 const OF_BYTES: [Step; 7] = [
     (Call::Fields, 1, 0),
     (Call::Text("ab"), 2, 2),
@@ -52,7 +52,7 @@ fn check_steps(
     Ok(())
 }
 
-// An open text or run counts by its bytes, and not as a node.
+// The bytes of an open text or run are counted, but it is not a node yet.
 #[test]
 fn open_texts_and_runs_are_counted_as_they_come(rt: HostRuntime) -> Result<(), Fail> {
     check_steps(&rt, rt.alloc(), TWO_TEXTS, 1, &OF_TEXTS)?;

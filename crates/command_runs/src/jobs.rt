@@ -1,10 +1,10 @@
-//! Jobs of the command, whose depth it takes.
+//! Jobs with a depth that the command accepts.
 
 ghost use Rattle.scale_tool.specs.Answer.{IsServed};
 
 use scale_tool::Job;
 
-/// The job of a value's bytes, within the depth that holds where none is reported.
+/// Returns the job that decodes raw bytes as a value of type `id`, with the default depth.
 pub fn decode(id: u32) -> Job
     ensures { IsServed result }
 {
@@ -16,7 +16,7 @@ pub fn decode(id: u32) -> Job
     }
 }
 
-/// The job, whose depth no row has above 1024.
+/// Returns the job with its depth capped at 1024. No row's job is deeper.
 pub fn served(job: Job) -> Job
     ensures { IsServed result }
 {

@@ -1,4 +1,4 @@
-//! What tests of the command share: jobs, and runs of its engine over memory.
+//! Helpers that the tests of the command share: jobs, and runs of its engine over memory.
 #![tactic(auto)]
 
 pub mod jobs;

@@ -7,7 +7,7 @@ use scale_tests::paced::{PacedReader, PacedWriter, Then};
 use scale_tool::{Job, run};
 use std::alloc::Global;
 
-/// What the engine answers: its status, what it wrote, and what it reported on standard error.
+/// The result of a run: its status, and what it wrote to standard output and to standard error.
 #[derive(Drop)]
 pub struct Ran {
     pub status: u8,
@@ -42,7 +42,7 @@ pub struct Devices<'a> {
 }
 
 impl<'a> Devices<'a> {
-    /// Devices over these bytes that move so many bytes a call and do not fail.
+    /// Creates devices over these bytes that move at most `step` bytes a call and don't fail.
     pub fn over(alloc: Global, registry: &'a [u8], value: &'a [u8], step: usize) -> Devices<'a> {
         Devices {
             registry: PacedReader::new(registry, step, Then::GoesOn),
@@ -52,7 +52,7 @@ impl<'a> Devices<'a> {
         }
     }
 
-    /// Runs the job.
+    /// Runs the job, and returns its result and which devices failed.
     pub fn run(self, alloc: Global, job: Job) -> (Ran, Failed) {
         let mut registry = Source::new(self.registry);
         let mut value = Source::new(self.value);

@@ -1,11 +1,11 @@
-//! The whole help of the program and of its subcommands, and the longest line of words.
+//! The complete help of the program and of its subcommands, and the longest command line.
 
 use crate::expect::same;
 use scale_core::Sink;
 use scale_tool::{Job, explain, job};
 use std::test::Fail;
 
-/// What each help ends with.
+/// The end of every help text.
 const NOTES: &str = "\
 Limits of a value:
 \x20 depth   0 to 1024, 64 where --depth is absent; the value itself has depth 0
@@ -101,7 +101,7 @@ fn the_whole_help_is_written(rt: HostRuntime) -> Result<(), Fail> {
     Ok(())
 }
 
-// Every option, and two dashes before a name that is no option.
+// The words contain every option, and two dashes before a file name that begins with a dash.
 #[test]
 fn ten_words_name_a_value(rt: HostRuntime) -> Result<(), Fail> {
     let words = [

@@ -10,10 +10,10 @@ use std::alloc::{AllocError, Global};
 use std::process::Abort;
 use std::test::Fail;
 
-/// What a run answers: its status, what it wrote, and its line on standard error.
+/// The result of a run: its status, and what it wrote to standard output and to standard error.
 type Answer = (u8, Vec<u8>, Vec<u8>);
 
-/// Runs the job on these bytes, over devices that do not fail.
+/// Runs the job on these bytes, over devices that don't fail.
 fn answer(rt: &impl Abort, alloc: Global, job: Job, registry: &[u8], value: &[u8]) -> Answer {
     let mut registry = Source::new(registry);
     let mut value = Source::new(value);
@@ -29,7 +29,7 @@ fn answer(rt: &impl Abort, alloc: Global, job: Job, registry: &[u8], value: &[u8
     (status, out.into_inner(), err.into_inner())
 }
 
-/// So many times this.
+/// Returns `count` copies of `part`.
 fn repeated(alloc: Global, part: &[u8], count: u16) -> Result<Vec<u8>, AllocError> {
     let mut bytes = Vec::new(alloc);
     'parts: for _ in 0..count {
@@ -38,7 +38,7 @@ fn repeated(alloc: Global, part: &[u8], count: u16) -> Result<Vec<u8>, AllocErro
     Ok(bytes)
 }
 
-/// The job of a value of the type 0 within this depth.
+/// Returns the job that decodes a value of type 0 within this depth.
 fn within(depth: u16) -> Job {
     Job::Decode {
         id: 0,
@@ -48,14 +48,14 @@ fn within(depth: u16) -> Job {
     }
 }
 
-/// 1024 arms around the last one, which has depth 1024.
+/// Returns the bytes of 1024 arms around a last one, which has depth 1024.
 fn deepest(alloc: Global) -> Result<Vec<u8>, AllocError> {
     let mut value = repeated(alloc, &[1], 1024)?;
     value.push(0)?;
     Ok(value)
 }
 
-/// What is written of it.
+/// Returns the output for the value of [`deepest`].
 fn line_of_deepest(alloc: Global) -> Result<Vec<u8>, AllocError> {
     let mut line = repeated(alloc, b"{\"Next\":[", 1024)?;
     line.extend_from_slice(b"{\"End\":[]}")?;
@@ -84,7 +84,8 @@ fn a_value_below_the_depth_is_refused(rt: HostRuntime) -> Result<(), Fail> {
     Ok(())
 }
 
-/// A text of this length and so many letters: the status and the line, and how much is written.
+/// Runs the command on a text of this length and this many letters. Checks the status, the line on
+/// standard error, and the number of bytes written.
 fn check_letters(
     rt: &impl Abort,
     alloc: Global,
@@ -115,14 +116,14 @@ fn check_letters(
     same(rt, (letters, out.into_inner().len()), (letters, written));
 }
 
-/// The length of a text that takes all bytes that are allowed, with its own four.
+/// The encoded length of the longest text within the limit, which includes the length's four bytes.
 const LONGEST: &[u8] = b"\xf2\xff\xff\x03";
 
-/// One more.
+/// The encoded length of a text that is one byte longer.
 const TOO_LONG: &[u8] = b"\x02\x00\x00\x04";
 
-// At most 16777216 bytes belong to a value: a text is refused as too long only where a further byte
-// comes.
+// A value has at most 16777216 bytes. A longer text is rejected as too long only once a further
+// byte arrives.
 #[test]
 fn the_longest_text_is_shown(rt: HostRuntime) {
     check_letters(&rt, rt.alloc(), LONGEST, 16_777_212, "", 16_777_215);

@@ -1,4 +1,4 @@
-//! Words that no row can hold, since they have blanks in them, and files that do not open.
+//! Words that no row can hold because they contain blanks, and files that do not open.
 
 use crate::expect::same;
 use scale_core::Sink;
@@ -7,7 +7,7 @@ use std::alloc::Global;
 use std::process::Abort;
 use std::test::Fail;
 
-/// The words are a usage error, and one line reports it.
+/// Checks that the words are a usage error, which one line reports.
 fn check_usage(rt: &impl Abort, alloc: Global, words: &[&str]) -> Result<(), Fail> {
     let fault = job(alloc, words).err().ok_or("a fault")?;
     let mut out = Sink::new(Vec::new(alloc));

@@ -1,5 +1,4 @@
-//! Devices that fail under the command, at each of their calls: what it answers, and what stands
-//! where it wrote.
+//! Devices that fail at each of their calls: what the command reports, and what it has written.
 
 use crate::expect::same;
 use command_runs::jobs::decode;
@@ -22,7 +21,7 @@ const VALUE: Failed = Failed {
 
 const OUT: Failed = Failed { out: true, ..NONE };
 
-/// What the command is to answer to a row where no device fails.
+/// Returns the result that the command should have for a row if no device fails.
 fn wanted(alloc: Global, row: &Row) -> Result<Ran, AllocError> {
     if row.refusal.is_empty() {
         return Ok(Ran {
@@ -38,7 +37,7 @@ fn wanted(alloc: Global, row: &Row) -> Result<Ran, AllocError> {
     })
 }
 
-/// The row's run answered this.
+/// Checks the status and the outputs of the row's run.
 fn check_answer(rt: &impl Abort, row: &Row, found: &Ran, status: u8, out: &[u8], err: &[u8]) {
     let name = row.name;
     same(rt, (name, found.status), (name, status));
@@ -46,7 +45,8 @@ fn check_answer(rt: &impl Abort, row: &Row, found: &Ran, status: u8, out: &[u8],
     same(rt, (name, found.err.as_slice()), (name, err));
 }
 
-/// The registry's reader gives this front, a byte a call, and fails then: nothing else is touched.
+/// Checks a run whose registry reader gives `front`, a byte a call, and then fails. The value is
+/// not read, and standard output is empty.
 fn check_registry_front(rt: &impl Abort, alloc: Global, row: &Row, front: &'static [u8]) {
     let mut devices = Devices::over(alloc, front, row.bytes, 1);
     devices.registry = PacedReader::new(front, 1, Then::Fails);
@@ -56,7 +56,7 @@ fn check_registry_front(rt: &impl Abort, alloc: Global, row: &Row, front: &'stat
     check_answer(rt, row, &ran, 3, b"", b"scaleview: device: registry\n");
 }
 
-// The registry of n bytes is read in n + 1 calls, the last of which is to report its end.
+// A registry of n bytes is read in n + 1 calls, the last of which should report the end.
 #[test]
 fn each_read_of_a_registry_may_fail(rt: HostRuntime) {
     'rows: for row in &ROWS {
@@ -67,8 +67,8 @@ fn each_read_of_a_registry_may_fail(rt: HostRuntime) {
     }
 }
 
-/// The value's reader gives this front, a byte a call, and fails then, if it is asked so far: a
-/// value that is shown is read to its end.
+/// Checks a run whose value reader gives `front`, a byte a call, and then fails. A value may be
+/// rejected before that call, but one that is shown is read to its end.
 fn check_value_front(
     rt: &impl Abort,
     alloc: Global,
@@ -87,7 +87,7 @@ fn check_value_front(
     }
 }
 
-/// Each front of the row's bytes, from none to all.
+/// Checks readers that fail after every front of the row's bytes, from no byte to all.
 fn check_value_fronts(rt: &impl Abort, alloc: Global, row: &Row) -> Result<(), Fail> {
     let wanted = wanted(alloc, row)?;
     'calls: for call in 0..=row.bytes.len() {
@@ -105,7 +105,7 @@ fn each_read_of_a_value_may_fail(rt: HostRuntime) -> Result<(), Fail> {
     Ok(())
 }
 
-/// Standard output takes this front and then no more: it holds the front.
+/// Checks a run whose standard output takes `front` and then no more.
 fn check_output(rt: &impl Abort, alloc: Global, row: &Row, front: &[u8], then: Then) {
     let mut devices = Devices::over(alloc, row.registry, row.bytes, 4096);
     devices.out = PacedWriter::new(alloc, front.len(), 4096, then);
@@ -114,7 +114,7 @@ fn check_output(rt: &impl Abort, alloc: Global, row: &Row, front: &[u8], then: T
     check_answer(rt, row, &ran, 3, front, b"scaleview: device: output\n");
 }
 
-/// Each shorter front of what the row's value is shown as.
+/// Checks runs whose standard output ends before each byte of what the row's value is shown as.
 fn check_outputs(rt: &impl Abort, alloc: Global, row: &Row) -> Result<(), Fail> {
     let wanted = wanted(alloc, row)?;
     'places: for place in 0..wanted.out.len() {

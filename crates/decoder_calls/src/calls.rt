@@ -1,5 +1,5 @@
-//! The calls that tests make of decoders and of what shows values. What these promise stays here,
-//! so that no test's proof has to read it.
+//! Wrappers of the calls with which tests decode and show values. The contracts of these calls stay
+//! here, so that no test's proof has to read them.
 
 use decode_core::{
     DecodeFault, Decoder, OpenFault, PiecesFault, Progress, StreamFault, decode_all, decode_pieces,
@@ -13,7 +13,7 @@ use std::test::Fail;
 use value_core::{Limits, Value};
 use widths_core::Checked;
 
-/// What a decoder holds.
+/// The counts that a decoder reports.
 #[derive(Clone, Copy, Debug, PartialEq, Eq)]
 pub struct Holding {
     pub nodes: u64,
@@ -40,7 +40,7 @@ pub fn open<'r, A: Allocator + Clone>(
     }
 }
 
-/// Feeds the piece, and returns how far the value is.
+/// Feeds the piece, and returns the progress of the value.
 ///
 /// # Errors
 ///
@@ -52,7 +52,7 @@ pub fn feed<A: Allocator>(
     decoder.feed(piece)
 }
 
-/// Ends the decoder, and returns the value.
+/// Finishes the decoder, and returns the value.
 ///
 /// # Errors
 ///
@@ -61,7 +61,7 @@ pub fn finish<'r, A: Allocator>(decoder: Decoder<'r, A>) -> Result<Value<'r, A>,
     decoder.finish()
 }
 
-/// What the decoder holds.
+/// Returns the counts that the decoder reports.
 pub fn held<A: Allocator>(decoder: &Decoder<'_, A>) -> Holding {
     Holding {
         nodes: decoder.node_count(),
@@ -70,7 +70,7 @@ pub fn held<A: Allocator>(decoder: &Decoder<'_, A>) -> Holding {
     }
 }
 
-/// Why no decoder of the type is made, if none is.
+/// Returns the error of [`Decoder::new`], or `None` if the decoder is created.
 pub fn opening_fault<A: Allocator + Clone>(
     memory: A,
     checked: &Checked,
@@ -80,7 +80,7 @@ pub fn opening_fault<A: Allocator + Clone>(
     Decoder::new(memory, checked, TypeId(ty), limits).err()
 }
 
-/// Returns the value of the type that all bytes of the source spell.
+/// Decodes all bytes of the source as one value of the type.
 ///
 /// # Errors
 ///
@@ -95,7 +95,7 @@ pub fn all_of<'r, A: Allocator + Clone, R: Read>(
     decode_all(memory, checked, TypeId(ty), limits, source)
 }
 
-/// Returns the value of the type that the pieces begin with, and its number of bytes.
+/// Decodes the value of the type that the pieces begin with. Returns it and its number of bytes.
 ///
 /// # Errors
 ///
@@ -119,7 +119,7 @@ pub fn shown<A: Allocator>(alloc: Global, value: &Value<'_, A>) -> Result<String
     json_text(alloc, alloc, value)
 }
 
-/// Returns the JSON of a value, by its tree.
+/// Returns the JSON of a value, formatted from its tree.
 ///
 /// # Errors
 ///
@@ -133,7 +133,7 @@ pub fn shown_tree<A: Allocator>(alloc: Global, value: &Value<'_, A>) -> Result<S
 ///
 /// # Errors
 ///
-/// If a write fails.
+/// If the value cannot be printed.
 pub fn printed<A: Allocator>(alloc: Global, value: &Value<'_, A>) -> Result<Vec<u8>, Fail> {
     let mut sink = Sink::new(Vec::new(alloc));
     match print(alloc, value, &mut sink) {

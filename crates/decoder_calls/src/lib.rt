@@ -1,4 +1,4 @@
-//! The calls that tests make of decoders and of what shows values.
+//! Wrappers of the calls with which tests decode and show values.
 #![tactic(auto)]
 
 pub mod calls;

@@ -1,5 +1,4 @@
-//! Decoders with failing allocations: where one is made, where it is fed, and where it is
-//! finished.
+//! Decoders whose allocations fail when they are created, fed or finished.
 
 use crate::expect::same;
 use decode_core::{DecodeFault, DecodeReason, Decoder, OpenFault, Progress};
@@ -31,8 +30,8 @@ fn a_failed_allocation_is_printed_by_its_name(rt: HostRuntime) -> Result<(), Fai
     Ok(())
 }
 
-// A decoder takes memory for its nodes and for its bytes through a clone each of what it is handed,
-// and no more at first.
+// A decoder clones its allocator twice, for its nodes and for its bytes, and requests nothing else
+// at first.
 #[test]
 fn memory_that_is_refused_at_first_makes_no_decoder(rt: HostRuntime) -> Result<(), Fail> {
     let checked = checked(rt.alloc(), NESTED)?;
@@ -45,7 +44,7 @@ fn memory_that_is_refused_at_first_makes_no_decoder(rt: HostRuntime) -> Result<(
     Ok(())
 }
 
-/// What the byte at this place is answered where memory is granted.
+/// Returns the progress after the byte at this place if no allocation fails.
 fn wanted_progress(place: usize) -> Progress {
     if place.saturating_add(1) == NESTED_BYTES.len() {
         Progress::Done { used: 1 }
@@ -54,8 +53,8 @@ fn wanted_progress(place: usize) -> Progress {
     }
 }
 
-/// Feeds the nested value byte by byte: the place of the byte at which an allocation fails, where
-/// it is.
+/// Feeds the nested value byte by byte. Returns the place of the byte at which an allocation fails,
+/// or `None` if no allocation fails.
 fn place_of_refusal<A: Allocator>(rt: &impl Abort, decoder: &mut Decoder<'_, A>) -> Option<u64> {
     'bytes: for (place, byte) in NESTED_BYTES.iter().enumerate() {
         let reported = feed(decoder, &[*byte]);
@@ -67,12 +66,12 @@ fn place_of_refusal<A: Allocator>(rt: &impl Abort, decoder: &mut Decoder<'_, A>)
     None
 }
 
-/// The decoder that was refused memory at this byte holds nothing, and each later call is refused
-/// too.
+/// Checks that a decoder whose allocation failed at this byte holds nothing, and that every later
+/// call fails too.
 fn check_refused<A: Allocator>(rt: &impl Abort, decoder: Decoder<'_, A>, place: u64) {
     let mut decoder = decoder;
     let taken = held(&decoder).taken;
-    // The last byte of a run is taken before memory is wanted for its node.
+    // The last byte of a run is taken before its node is allocated.
     same(
         rt,
         (place, taken == place || taken == place.saturating_add(1)),
@@ -95,7 +94,7 @@ fn check_refused<A: Allocator>(rt: &impl Abort, decoder: Decoder<'_, A>, place: 
     same(rt, (place, finish(decoder).err()), (place, Some(REFUSED)));
 }
 
-/// The decoder has the nested value.
+/// Checks that the decoder has the nested value.
 fn check_untroubled<A: Allocator>(
     rt: &impl Abort,
     alloc: Global,
@@ -113,7 +112,7 @@ fn check_untroubled<A: Allocator>(
     Ok(())
 }
 
-/// Decodes the nested value: was memory refused on the way?
+/// Decodes the nested value, and returns whether an allocation failed.
 fn is_refused<A: Allocator + Clone>(
     rt: &impl Abort,
     alloc: Global,
@@ -133,7 +132,7 @@ fn is_refused<A: Allocator + Clone>(
     }
 }
 
-/// Decodes the nested value over memory of which this request is refused: was it made?
+/// Decodes the nested value while this request fails. Returns whether the request was made.
 fn check_feeds(
     rt: &impl Abort,
     alloc: Global,
@@ -148,8 +147,8 @@ fn check_feeds(
     Ok(refused)
 }
 
-// Nodes, the bytes of texts and runs and the nodes that are open are kept apart, and each grows at
-// least once.
+// Nodes, bytes of texts and runs, and open nodes are stored separately. Each store grows at least
+// once.
 #[test]
 fn each_refused_growth_ends_the_decoder(rt: HostRuntime) -> Result<(), Fail> {
     let checked = checked(rt.alloc(), NESTED)?;
@@ -163,7 +162,7 @@ fn each_refused_growth_ends_the_decoder(rt: HostRuntime) -> Result<(), Fail> {
     Err("each run is refused memory")?
 }
 
-/// A value that is long for its registry, and how many nodes it has.
+/// The bytes of a long value, its type, and the number of its nodes.
 #[derive(Clone, Copy)]
 struct Long<'c> {
     checked: &'c Checked,
@@ -172,8 +171,8 @@ struct Long<'c> {
     nodes: u64,
 }
 
-/// Feeds a long value in pieces of so many bytes, over memory of which this request is refused: was
-/// it made? Then the value is refused.
+/// Feeds a long value in pieces of this many bytes while this request fails. If the request is
+/// made, feeding fails. Returns whether it was made.
 fn check_long(
     rt: &impl Abort,
     alloc: Global,
@@ -204,9 +203,10 @@ fn check_long(
     Ok(false)
 }
 
-// The list of open nodes takes memory once, and that of nodes for 16 at first. Then there is room
-// for what the words that are left are expected to bring, in six steps of at most four times as
-// many: growing would take twelve requests more. How the bytes are cut makes no difference.
+// The list of open nodes is allocated once, and that of nodes with a capacity of 16. It then grows
+// in six steps, each at most fourfold, to the capacity that the remaining words are expected to
+// need. Growth without that expectation would take twelve more requests. The sizes of the pieces
+// make no difference.
 #[test]
 fn a_long_list_makes_room_ahead(rt: HostRuntime) -> Result<(), Fail> {
     let checked = checked(rt.alloc(), WORDS)?;
@@ -234,9 +234,9 @@ fn a_long_list_makes_room_ahead(rt: HostRuntime) -> Result<(), Fail> {
     Ok(())
 }
 
-// The bytes of a text take memory for those of its first piece, and its node does. Between them
-// there is room three times for what the text lacks, at most for three times as many bytes as there
-// are.
+// The first allocation is for the bytes of the first piece, and the last is for the node. In
+// between, the capacity grows three times towards the length of the text, each time at most
+// fourfold.
 #[test]
 fn a_long_text_in_pieces_makes_room_ahead(rt: HostRuntime) -> Result<(), Fail> {
     let checked = checked(rt.alloc(), TEXT)?;
@@ -258,8 +258,7 @@ fn a_long_text_in_pieces_makes_room_ahead(rt: HostRuntime) -> Result<(), Fail> {
     Ok(())
 }
 
-/// Finishes a decoder that was fed nothing, over memory of which this request is refused: was it
-/// made?
+/// Finishes an unfed decoder while this request fails. Returns whether the request was made.
 fn check_finish(
     rt: &impl Abort,
     checked: &Checked,
@@ -278,7 +277,7 @@ fn check_finish(
     Ok(refused)
 }
 
-/// Finishes a decoder that was fed nothing, where each request in turn is refused, and then none.
+/// Finishes unfed decoders while each request in turn fails, and one while no request fails.
 fn check_finishes(
     rt: &impl Abort,
     alloc: Global,
@@ -300,7 +299,7 @@ fn check_finishes(
     Err("each run is refused memory")?
 }
 
-// A value without bytes is made where the decoder is finished, if it was not fed before.
+// A value without bytes is built when the decoder is finished, if it was not fed before.
 #[test]
 fn a_value_without_bytes_may_be_refused_memory(rt: HostRuntime) -> Result<(), Fail> {
     let registry = nested_pairs(rt.alloc())?;
@@ -308,7 +307,8 @@ fn a_value_without_bytes_may_be_refused_memory(rt: HostRuntime) -> Result<(), Fa
     check_finishes(&rt, rt.alloc(), &checked, 40, None)
 }
 
-// So are the nodes before the first byte, and only then it is reported that the byte is missing.
+// The nodes before the first byte are built when the decoder is finished, too. The missing byte is
+// reported only after that.
 #[test]
 fn nodes_before_the_first_byte_may_be_refused_memory(rt: HostRuntime) -> Result<(), Fail> {
     let checked = checked(rt.alloc(), TWO_UNITS_AND_A_BYTE)?;

@@ -1,5 +1,5 @@
-//! What tests compare by: a call, since what a macro writes in its place is proved again in every
-//! test.
+//! The comparison that tests use. It is a function, because the expansion of a macro is proved
+//! again in every test.
 
 use std::fmt::Debug;
 use std::process::Abort;

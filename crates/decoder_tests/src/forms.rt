@@ -1,4 +1,4 @@
-//! Compact integers and runs that stand complete on the front of a piece.
+//! Compact integers and runs that are complete at the start of a piece.
 
 use crate::expect::same;
 use form_core::{whole_compact, whole_run};

@@ -1,5 +1,5 @@
-//! Decoders over heaps of fixed size: a length that is claimed takes no memory, and what does not
-//! fit is refused for good.
+//! Decoders on heaps of fixed size: a claimed length allocates nothing, and a decoder that exceeds
+//! the heap fails for good.
 
 use crate::decoder_memory::REFUSED;
 use crate::expect::same;
@@ -15,7 +15,7 @@ use std::test::Fail;
 use value_core::{Value, What};
 use widths_core::Checked;
 
-/// A value of a type that takes no bytes, which is one node.
+/// Decodes a value of a type that takes no bytes. The value is one node.
 fn empty_value<'r>(
     rt: &impl Abort,
     heap: &'r LocalHeap,
@@ -39,7 +39,7 @@ fn empty_value<'r>(
     Ok(value)
 }
 
-/// The value is one node and takes no bytes.
+/// Checks that the value is one node and takes no bytes.
 fn check_empty<A: Allocator>(
     rt: &impl Abort,
     alloc: Global,
@@ -51,7 +51,7 @@ fn check_empty<A: Allocator>(
     Ok(())
 }
 
-/// The value is shown as null.
+/// Checks that the value is shown as `null`.
 fn check_null<A: Allocator>(
     rt: &impl Abort,
     alloc: Global,
@@ -77,7 +77,8 @@ fn a_value_of_two_to_the_fortieth_units_is_one_node(rt: HostRuntime) -> Result<(
     Ok(())
 }
 
-/// The bytes are too few for the type 1, and so many nodes and bytes of runs are held.
+/// Feeds too few bytes for a value of type 1. Checks the counts of nodes and of bytes of runs, and
+/// that the value is truncated.
 fn check_claim(
     rt: &impl Abort,
     heap: &LocalHeap,
@@ -103,7 +104,7 @@ fn check_claim(
     Ok(())
 }
 
-// A sequence of 2^30 - 1 elements and an array of 2^32 - 1 are claimed, and a few bytes are there.
+// A sequence claims 2^30 - 1 elements and an array 2^32 - 1, but only a few bytes follow.
 #[test]
 fn claimed_lengths_fit_a_small_heap(rt: HostRuntime) -> Result<(), Fail> {
     let heap = LocalHeap::new(rt.alloc(), 65_536)?;
@@ -122,8 +123,8 @@ fn claimed_lengths_fit_a_small_heap(rt: HostRuntime) -> Result<(), Fail> {
     Ok(())
 }
 
-// As many words are claimed, and a thousand are there, whose nodes take 24 kB. While these are
-// moved there is room for them and for five times as many.
+// 2^30 - 1 words are claimed and a thousand follow, whose nodes take 24 kB. The heap has room for
+// six times as many, which is enough while the nodes are moved.
 #[test]
 fn a_claimed_length_takes_room_by_what_came(rt: HostRuntime) -> Result<(), Fail> {
     let heap = LocalHeap::new(rt.alloc(), 150_000)?;
@@ -143,7 +144,7 @@ fn a_claimed_length_fits_the_smallest_heap(rt: HostRuntime) -> Result<(), Fail> 
     check_claim(&rt, &heap, &checked, b"\xfe\xff\xff\xff\x01\x02", (0, 2))
 }
 
-/// A sequence of 65536 u8.
+/// Returns the bytes of a sequence of 65536 u8.
 fn many_bytes(alloc: Global) -> Result<Vec<u8>, AllocError> {
     let mut many = Vec::from_slice(alloc, b"\x02\x00\x04\x00")?;
     'bytes: for _ in 0..65_536 {
@@ -152,14 +153,14 @@ fn many_bytes(alloc: Global) -> Result<Vec<u8>, AllocError> {
     Ok(many)
 }
 
-/// The piece is refused memory, and nothing is held.
+/// Checks that feeding the piece reports a failed allocation, and that nothing is held.
 fn check_refused<A: Allocator>(rt: &impl Abort, decoder: &mut Decoder<'_, A>, piece: &[u8]) {
     same(rt, feed(decoder, piece), Err(REFUSED));
     let Holding { nodes, texts, .. } = held(decoder);
     same(rt, (nodes, texts), (0, 0));
 }
 
-/// A decoder to which more bytes are fed than fit the heap.
+/// Checks a decoder that is fed more bytes than fit the heap.
 fn check_full(
     rt: &impl Abort,
     heap: &LocalHeap,
@@ -174,7 +175,7 @@ fn check_full(
     Ok(())
 }
 
-/// A decoder of a u8 over the heap.
+/// Checks that the heap still serves a decoder of a u8.
 fn check_next(rt: &impl Abort, alloc: Global, heap: &LocalHeap) -> Result<(), Fail> {
     let checked = checked(alloc, U8)?;
     let mut decoder = open(heap, &checked, 0, AMPLE)?;
@@ -185,7 +186,7 @@ fn check_next(rt: &impl Abort, alloc: Global, heap: &LocalHeap) -> Result<(), Fa
     Ok(())
 }
 
-// Memory that is refused ends a decoder for good, and leaves the heap to the next one.
+// A failed allocation ends a decoder for good, and leaves the heap to the next one.
 #[test]
 fn a_heap_of_fixed_size_bounds_a_decoder(rt: HostRuntime) -> Result<(), Fail> {
     let checked = checked(rt.alloc(), BYTES)?;

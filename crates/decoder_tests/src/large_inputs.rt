@@ -1,5 +1,5 @@
-//! Inputs that are large: a decoder to which memory is granted answers them, and never says that it
-//! was refused.
+//! Large inputs: a decoder whose allocations succeed decodes them, and reports no failed
+//! allocation.
 
 use crate::expect::same;
 use decode_core::{DecodeFault, DecodeReason, Decoder, Progress};
@@ -14,7 +14,7 @@ use std::test::Fail;
 use value_core::{Limits, NodeRef, Value, What};
 use widths_core::Checked;
 
-/// The length of a text or a sequence, and so many bytes that are an `a` each.
+/// Returns the encoded length of a text or a sequence, and `count` bytes `a` after it.
 fn letters(alloc: Global, length: u32, count: u32) -> Result<Vec<u8>, AllocError> {
     let mut bytes = Vec::new(alloc);
     write_compact(&mut bytes, u128::from(length))?;
@@ -24,7 +24,7 @@ fn letters(alloc: Global, length: u32, count: u32) -> Result<Vec<u8>, AllocError
     Ok(bytes)
 }
 
-/// The value of the type whose bytes these are, fed at once.
+/// Decodes the bytes, fed at once, as a value of the type.
 fn value_of<'r>(
     rt: &impl Abort,
     alloc: Global,
@@ -41,7 +41,7 @@ fn value_of<'r>(
     Ok(value)
 }
 
-/// The decoder that took all bytes in one feed holds so many nodes and bytes of text.
+/// Checks the counts of nodes and of bytes of text of a decoder that takes all bytes in one feed.
 fn check_held(
     rt: &impl Abort,
     alloc: Global,
@@ -63,7 +63,8 @@ fn check_held(
     Ok(())
 }
 
-/// All bytes are taken in one feed, and so many nodes and bytes of text are there.
+/// Decodes all bytes in one feed. Checks the counts of nodes and of bytes of text, and that the
+/// value is written as the same bytes.
 fn check_feed(
     rt: &impl Abort,
     alloc: Global,
@@ -80,7 +81,8 @@ fn check_feed(
     Ok(())
 }
 
-/// All bytes are taken in pieces of 1000, and the value has so many nodes and bytes of text.
+/// Decodes all bytes in pieces of 1000. Checks the counts of nodes and of bytes of text, and that
+/// the value is written as the same bytes.
 fn check_pieces(
     rt: &impl Abort,
     alloc: Global,
@@ -102,7 +104,7 @@ fn check_pieces(
     Ok(())
 }
 
-// A piece of 5000 bytes, and one of 8 MiB, whole and in pieces of 1000 bytes.
+// Inputs of 5000 bytes and of 8 MiB, each in one piece and in pieces of 1000 bytes.
 #[test]
 fn a_long_piece_is_taken_at_once(rt: HostRuntime) -> Result<(), Fail> {
     let bytes = checked(rt.alloc(), BYTES)?;
@@ -128,7 +130,7 @@ fn many_nodes_are_finished(rt: HostRuntime) -> Result<(), Fail> {
     check_feed(&rt, rt.alloc(), &checked, 1, &input, (1_100_001, 0))
 }
 
-/// So many arms that hold another, and one that holds none.
+/// Returns the bytes of `count` arms that hold another, and of one that holds none.
 fn arms(alloc: Global, count: u16) -> Result<Vec<u8>, AllocError> {
     let mut bytes = Vec::new(alloc);
     'arms: for _ in 0..count {
@@ -138,7 +140,7 @@ fn arms(alloc: Global, count: u16) -> Result<Vec<u8>, AllocError> {
     Ok(bytes)
 }
 
-/// The only part of an arm that holds another.
+/// Returns the only child of an arm that holds another.
 fn next_arm<'v, 'r>(rt: &impl Abort, node: &NodeRef<'v, 'r>) -> Result<NodeRef<'v, 'r>, Fail> {
     same(rt, node.what(), What::Arm { position: 1 });
     let mut children = node.children();
@@ -147,7 +149,7 @@ fn next_arm<'v, 'r>(rt: &impl Abort, node: &NodeRef<'v, 'r>) -> Result<NodeRef<'
     Ok(child)
 }
 
-/// A chain of arms down to this depth is taken where the limit is as great.
+/// Checks that a chain of arms down to this depth is accepted if the limit is the same depth.
 fn check_depth(rt: &impl Abort, alloc: Global, checked: &Checked, depth: u16) -> Result<(), Fail> {
     let input = arms(alloc, depth)?;
     let limits = Limits { depth, bytes: 2048 };
@@ -172,7 +174,8 @@ fn deep_values_are_taken(rt: HostRuntime) -> Result<(), Fail> {
     Ok(())
 }
 
-/// A variant with an arm for each index but one, none of which has fields or a name.
+/// Returns the registry of a variant with an arm for every index but one. No arm has fields or a
+/// name.
 fn all_but(alloc: Global, missing: u8) -> Result<Vec<u8>, AllocError> {
     let mut bytes = Vec::from_slice(alloc, b"\x04\x00\x00\x00\x01")?;
     write_compact(&mut bytes, 255)?;
@@ -185,7 +188,7 @@ fn all_but(alloc: Global, missing: u8) -> Result<Vec<u8>, AllocError> {
     Ok(bytes)
 }
 
-/// A variant without this index: it is refused, and its neighbours are taken.
+/// Checks a variant without this index: the index is rejected, and its neighbours are accepted.
 fn check_missing(rt: &impl Abort, alloc: Global, missing: u8) -> Result<(), Fail> {
     let registry = all_but(alloc, missing)?;
     let checked = checked(alloc, &registry)?;
@@ -203,7 +206,8 @@ fn check_missing(rt: &impl Abort, alloc: Global, missing: u8) -> Result<(), Fail
     Ok(())
 }
 
-// An index that no arm has is reported as such, whichever it is, and those beside it are taken.
+// Any index may be the one that no arm has. It is rejected, and the indexes next to it are
+// accepted.
 #[test]
 fn each_index_may_be_missing(rt: HostRuntime) -> Result<(), Fail> {
     'missing: for missing in 0..=u8::MAX {
@@ -212,7 +216,7 @@ fn each_index_may_be_missing(rt: HostRuntime) -> Result<(), Fail> {
     Ok(())
 }
 
-/// The greatest number of nodes where so many bytes were taken.
+/// Returns the bound on the number of nodes after `taken` bytes.
 fn most_nodes(taken: u64, depth: u16, widest: u32) -> u64 {
     let levels = u64::from(depth).saturating_add(1);
     let parts = u64::from(widest).saturating_add(1);
@@ -222,8 +226,7 @@ fn most_nodes(taken: u64, depth: u16, widest: u32) -> u64 {
         .saturating_mul(parts)
 }
 
-// Before the first byte a tuple of two units and a byte has three nodes, where 260 would be the
-// most.
+// Before its first byte, a tuple of two units and a byte has three nodes. The bound is 260.
 #[test]
 fn nodes_stay_below_the_bound(rt: HostRuntime) -> Result<(), Fail> {
     let checked = checked(rt.alloc(), TWO_UNITS_AND_A_BYTE)?;
@@ -238,7 +241,7 @@ fn nodes_stay_below_the_bound(rt: HostRuntime) -> Result<(), Fail> {
     Ok(())
 }
 
-/// The decoder goes on, and holds so many nodes of so many bytes.
+/// Feeds a piece that leaves the value incomplete. Checks the counts of nodes and of bytes taken.
 fn check_more(
     rt: &impl Abort,
     decoder: &mut Decoder<'_, Global>,
@@ -254,7 +257,7 @@ fn check_more(
     same(rt, held(decoder), wanted);
 }
 
-// A sequence of units is one node, however many it claims.
+// A sequence of units is one node, whatever number of units it claims.
 #[test]
 fn counts_are_no_nodes(rt: HostRuntime) -> Result<(), Fail> {
     let greatest = b"\x03\xff\xff\xff\xff";
@@ -297,7 +300,7 @@ fn a_long_text_is_shown(rt: HostRuntime) -> Result<(), Fail> {
     Ok(())
 }
 
-/// The text of a run of so many letters a.
+/// Returns the JSON of a run of `count` bytes `a`.
 fn shown_letters(alloc: Global, count: u32) -> Result<String, AllocError> {
     let mut shown = String::new(alloc);
     shown.push_str("\"0x")?;
@@ -308,7 +311,7 @@ fn shown_letters(alloc: Global, count: u32) -> Result<String, AllocError> {
     Ok(shown)
 }
 
-// A run of 4 MiB is shown by two digits each, after the mark of hexadecimal digits.
+// A run of 4 MiB is shown as `0x` and two hexadecimal digits for each byte.
 #[test]
 fn a_long_run_is_shown(rt: HostRuntime) -> Result<(), Fail> {
     let checked = checked(rt.alloc(), BYTES)?;

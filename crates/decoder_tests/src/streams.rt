@@ -1,4 +1,4 @@
-//! Values from readers that fail, and ends at the edge of a read.
+//! Values decoded from readers that fail, and values that end at the edge of a read.
 
 use crate::expect::same;
 use decode_core::{DecodeFault, DecodeReason, OpenFault, StreamFault};
@@ -16,7 +16,7 @@ use std::test::Fail;
 use value_core::{Limits, Value};
 use widths_core::Checked;
 
-/// All bytes of the row are one value, or are refused as it says.
+/// Checks that all bytes of the row are one value, or are rejected as the row says.
 fn check_reported(
     rt: &impl Abort,
     alloc: Global,
@@ -41,8 +41,7 @@ fn check_reported(
     Ok(())
 }
 
-/// A reader that gives one byte a call and fails at one of its calls, where the first has the
-/// number 1.
+/// A reader that gives one byte a call and fails at one of its calls, counted from 1.
 #[derive(Drop)]
 struct FailingReader {
     bytes: &'static [u8],
@@ -66,7 +65,8 @@ impl Read for FailingReader {
     }
 }
 
-/// A reader that fails at this call: was all decided before it?
+/// Decodes the row from a reader that fails at this call. Returns whether the result was decided
+/// before it.
 fn check_failure(
     rt: &impl Abort,
     alloc: Global,
@@ -92,8 +92,8 @@ fn check_failure(
     Ok(true)
 }
 
-/// Readers that fail at each of their calls. A value of n bytes is read in n + 1 calls, the last of
-/// which reports the end; a row never takes more.
+/// Checks readers that fail at each of their calls. A value of n bytes is read in n + 1 calls, the
+/// last of which reports the end. No row takes more calls.
 fn check_failures(rt: &impl Abort, alloc: Global, row: &Row) -> Result<(), Fail> {
     let name = row.name;
     let checked = checked(alloc, row.registry)?;
@@ -119,8 +119,8 @@ fn each_read_that_fails_is_reported_unless_all_was_decided(rt: HostRuntime) -> R
     Ok(())
 }
 
-/// Returns the error of a reader that gives these bytes in one read and then fails, and whether it
-/// failed.
+/// Decodes from a reader that gives these bytes in one read and then fails. Returns the error, and
+/// whether the reader failed.
 fn refusal_before_failure(
     alloc: Global,
     registry: &[u8],
@@ -133,7 +133,7 @@ fn refusal_before_failure(
     Ok((fault, source.failed()))
 }
 
-// The value's two bytes come, and then nothing can be reported of what follows.
+// The value is complete after two bytes, but the read that would report the end fails.
 #[test]
 fn the_end_of_a_value_is_not_reported_before_the_next_read(rt: HostRuntime) -> Result<(), Fail> {
     let reported = refusal_before_failure(rt.alloc(), U16, 0, b"\x2a\x00")?;
@@ -141,7 +141,7 @@ fn the_end_of_a_value_is_not_reported_before_the_next_read(rt: HostRuntime) -> R
     Ok(())
 }
 
-// One read brings the byte that follows, and no other read is made.
+// The first read brings the byte after the value, and no other read is made.
 #[test]
 fn a_byte_after_is_reported_without_another_read(rt: HostRuntime) -> Result<(), Fail> {
     let reported = refusal_before_failure(rt.alloc(), U16, 0, b"\x2a\x00\xff")?;
@@ -153,7 +153,7 @@ fn a_byte_after_is_reported_without_another_read(rt: HostRuntime) -> Result<(), 
     Ok(())
 }
 
-// A type that is refused without a byte is refused after the first read.
+// A type that is rejected before any byte is rejected after the first read.
 #[test]
 fn the_first_read_comes_before_any_answer(rt: HostRuntime) -> Result<(), Fail> {
     let reported = refusal_before_failure(rt.alloc(), COMPACT_OF_A_BOOL, 1, b"")?;
@@ -161,7 +161,8 @@ fn the_first_read_comes_before_any_answer(rt: HostRuntime) -> Result<(), Fail> {
     Ok(())
 }
 
-/// A decoder of a u16 is refused so, and its reader is not touched.
+/// Checks that a decoder over the registry of a u16 is rejected with this error, and that its
+/// reader is not read.
 fn check_unread(
     rt: &impl Abort,
     alloc: Global,
@@ -216,7 +217,7 @@ fn a_decoder_that_is_not_made_reads_nothing(rt: HostRuntime) -> Result<(), Fail>
     Ok(())
 }
 
-/// A sequence of so many u8 above 63 and below 16384, and so many bytes after it.
+/// Returns the bytes of a sequence of 64 to 16383 u8, and `behind` bytes after it.
 fn sequence(alloc: Global, elements: u16, behind: usize) -> Result<Vec<u8>, Fail> {
     let length = elements.saturating_mul(4).saturating_add(1);
     let mut bytes = Vec::from_slice(alloc, &length.to_le_bytes())?;
@@ -230,8 +231,8 @@ fn sequence(alloc: Global, elements: u16, behind: usize) -> Result<Vec<u8>, Fail
     Ok(bytes)
 }
 
-/// The refusal of a reader of all these bytes, a sequence of u8 on their front. Without one the
-/// bytes are the value's.
+/// Decodes a sequence of u8 from a reader of these bytes. Returns the error, or `None` if the bytes
+/// are exactly the value's.
 fn refusal_of_sequence(
     rt: &impl Abort,
     alloc: Global,
@@ -252,7 +253,7 @@ fn refusal_of_sequence(
     }
 }
 
-/// A sequence of so many bytes in all, and so many bytes after it.
+/// Checks a sequence that takes `len` bytes, with `behind` bytes after it.
 fn check_edge(rt: &impl Abort, alloc: Global, len: u16, behind: usize) -> Result<(), Fail> {
     let bytes = sequence(alloc, len.saturating_sub(2), behind)?;
     same(rt, bytes.len(), usize::from(len).saturating_add(behind));
@@ -263,8 +264,7 @@ fn check_edge(rt: &impl Abort, alloc: Global, len: u16, behind: usize) -> Result
     Ok(())
 }
 
-// A read asks for at most 4096 bytes, so that the value and what follows it may come in one read or
-// in two.
+// A read asks for at most 4096 bytes, so the value and what follows it may come in one read or two.
 #[test]
 fn a_byte_after_is_reported_at_the_edge_of_a_read(rt: HostRuntime) -> Result<(), Fail> {
     'lengths: for len in [4095, 4096, 4097, 8191, 8192, 8193u16] {
@@ -294,7 +294,7 @@ fn faults_of_readers_are_printed_by_their_names(rt: HostRuntime) -> Result<(), F
     Ok(())
 }
 
-/// A reader of so many zeros, which keeps how many it was asked for at most.
+/// A reader of `left` zeros, which records the most bytes that one read asked for.
 #[derive(Drop)]
 struct AskedReader {
     left: usize,

@@ -1,4 +1,4 @@
-//! Values from readers and from pieces where an allocation fails.
+//! Values decoded from readers and from pieces while an allocation fails.
 
 use crate::decoder_memory::{NESTED_BYTES, REFUSED};
 use crate::expect::same;
@@ -17,7 +17,7 @@ use std::test::Fail;
 use value_core::Value;
 use widths_core::Checked;
 
-// A decoder takes memory for its nodes and for its bytes through a clone each of what it is handed.
+// A decoder clones its allocator twice, for its nodes and for its bytes.
 #[test]
 fn a_reader_is_not_read_without_a_decoder(rt: HostRuntime) -> Result<(), Fail> {
     let checked = checked(rt.alloc(), NESTED)?;
@@ -50,7 +50,7 @@ fn pieces_without_a_decoder_are_refused(rt: HostRuntime) -> Result<(), Fail> {
     Ok(())
 }
 
-/// The value is the nested one.
+/// Checks that the value is the nested one.
 fn check_nested<A: Allocator>(
     rt: &impl Abort,
     alloc: Global,
@@ -61,8 +61,7 @@ fn check_nested<A: Allocator>(
     Ok(())
 }
 
-/// Decodes a reader over the memory: why it is refused. Without a refusal the value is the nested
-/// one.
+/// Decodes the nested value from a reader, and checks it. Returns the error if decoding fails.
 fn refusal_of_reader<A: Allocator + Clone>(
     rt: &impl Abort,
     alloc: Global,
@@ -81,8 +80,7 @@ fn refusal_of_reader<A: Allocator + Clone>(
     }
 }
 
-/// Decodes two pieces over the memory: why they are refused. Without a refusal the value is the
-/// nested one.
+/// Decodes the nested value from two pieces, and checks it. Returns the error if decoding fails.
 fn refusal_of_pieces<A: Allocator + Clone>(
     rt: &impl Abort,
     alloc: Global,
@@ -100,7 +98,7 @@ fn refusal_of_pieces<A: Allocator + Clone>(
     }
 }
 
-/// A reader over memory of which this request is refused: was it made?
+/// Decodes from a reader while this request fails. Returns whether the request was made.
 fn check_reader(
     rt: &impl Abort,
     alloc: Global,
@@ -117,7 +115,7 @@ fn check_reader(
     Ok(refused)
 }
 
-/// Two pieces over memory of which this request is refused: was it made?
+/// Decodes two pieces while this request fails. Returns whether the request was made.
 fn check_pieces(
     rt: &impl Abort,
     alloc: Global,

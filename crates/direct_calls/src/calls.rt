@@ -1,5 +1,5 @@
-//! The calls: each is made once, and a line says what came of it. There is none where memory was
-//! refused before the call.
+//! The calls. Each is made once, and a line reports its outcome. There is no line if an allocation
+//! fails before the call.
 
 use crate::sample;
 use json_core::{PrintFault, json_text, json_to_slice, print, to_json};
@@ -14,13 +14,14 @@ use std::alloc::Global;
 use value_core::{Limits, Value as Sampled};
 use widths_core::{CheckFault, Checked};
 
-/// The line where neither the right answer nor an allocation failure came of a call.
+/// The line of an outcome that is neither the right answer nor an allocation failure.
 const OTHER: &str = "direct_calls: neither the right answer nor want of memory\n";
 
-/// How many bytes `print` and `json_to_slice` have room for, more than the text has.
+/// The capacity for the output of `print` and `json_to_slice`, in bytes, which is more than the
+/// text needs.
 const ROOM: usize = 256;
 
-/// The line, where what it says is so.
+/// Returns `line` if `is_so`, and [`OTHER`] otherwise.
 pub(crate) fn line_where(is_so: bool, line: &'static str) -> &'static str {
     if is_so { line } else { OTHER }
 }
@@ -88,7 +89,7 @@ pub(crate) fn value_text_line(alloc: Global) -> Option<&'static str> {
     })
 }
 
-/// Is the value shown by the sample's text?
+/// Returns whether the value is shown as the sample's text.
 fn is_shown(alloc: Global, value: &Sampled<'_, Global>) -> bool {
     match json_text(alloc, alloc, value) {
         Ok(text) => text.as_str() == sample::TEXT,
@@ -112,7 +113,7 @@ pub(crate) fn to_json_line(alloc: Global) -> Option<&'static str> {
     })
 }
 
-/// Is this the registry of the sample? Its spelling says so.
+/// Returns whether this is the registry of the sample, by comparing its encoding.
 fn is_sample(alloc: Global, registry: &Registry) -> bool {
     match write_registry(alloc, registry) {
         Ok(bytes) => bytes.as_slice() == sample::registry_bytes(),
@@ -132,7 +133,8 @@ pub(crate) fn new_line(alloc: Global) -> Option<&'static str> {
     })
 }
 
-/// The line of a registry that was read, with how many bytes it took, or of why it was not.
+/// Returns `done` if the registry was read from `len` bytes, `refused` if an allocation failed, and
+/// [`OTHER`] otherwise.
 fn read_line(
     read: Result<(Registry, usize), RegistryFault>,
     len: usize,
@@ -188,7 +190,7 @@ pub(crate) fn write_registry_line(alloc: Global) -> Option<&'static str> {
     })
 }
 
-/// The words are those of a command line, the program's name first.
+/// Returns the line of `job` on the words of a command line, the program's name first.
 pub(crate) fn job_line(alloc: Global, words: &[&str]) -> &'static str {
     match job(alloc, words) {
         Ok((Job::Types { .. }, _, None)) => "job: types\n",

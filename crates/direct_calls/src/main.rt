@@ -1,7 +1,7 @@
-//! The program `direct_calls`: makes one public call over the global allocator, on a small input of
-//! its own, and says in a line on standard output what came of it. `examples/check-memory` refuses
-//! its requests for memory. The status is 0 where the line is written, 2 where the words name no
-//! call, and 3 where the output failed.
+//! The program `direct_calls` makes one public call with the global allocator on a small built-in
+//! input. It reports the outcome in a line on standard output. `examples/check-memory` makes its
+//! allocations fail. The exit status is 0 if the line is written, 2 if the words name no call, and
+//! 3 if the output fails.
 #![tactic(auto)]
 
 mod calls;
@@ -22,8 +22,8 @@ const USAGE: &str =
 /// Why no call was made.
 #[derive(Clone, Copy)]
 enum NoCall {
-    /// The words or the input of the call are not there, because an allocation failed or a word
-    /// is not UTF-8.
+    /// The words or the input of the call are missing, because an allocation failed or a word is
+    /// not UTF-8.
     NotReady,
     /// The words name no call.
     Usage,
@@ -41,7 +41,7 @@ impl From<AllocError> for NoCall {
     }
 }
 
-/// The words of the command line, the program's name first.
+/// Returns the words of the command line, the program's name first.
 fn command_words<R: Env + AllocGlobal>(rt: &R) -> io::Result<Vec<String>> {
     let mut words = Vec::new(rt.alloc());
     'words: for word in env::args(rt)? {
@@ -50,7 +50,7 @@ fn command_words<R: Env + AllocGlobal>(rt: &R) -> io::Result<Vec<String>> {
     Ok(words)
 }
 
-/// The words, lent.
+/// Returns the words as string slices.
 fn lent_words(alloc: Global, words: &[String]) -> Result<Vec<&str>, AllocError> {
     let mut lent = Vec::with_capacity(alloc, words.len())?;
     'words: for word in words {
@@ -59,7 +59,8 @@ fn lent_words(alloc: Global, words: &[String]) -> Result<Vec<&str>, AllocError> 
     Ok(lent)
 }
 
-/// Makes the call that the words name, where its input is there.
+/// Makes the call that the words name, and returns its line, or `None` if its input cannot be
+/// allocated.
 fn call(alloc: Global, words: &[&str]) -> Result<Option<&'static str>, NoCall> {
     Ok(match words {
         [_, "print"] => calls::print_line(alloc),
@@ -77,7 +78,7 @@ fn call(alloc: Global, words: &[&str]) -> Result<Option<&'static str>, NoCall> {
     })
 }
 
-/// Makes the call that the command line names: the line of what came of it.
+/// Makes the call that the command line names, and returns the line of its outcome.
 fn called<R: Env + AllocGlobal>(rt: &R) -> Result<&'static str, NoCall> {
     let alloc = rt.alloc();
     let words = command_words(rt)?;

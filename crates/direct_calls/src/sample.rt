@@ -1,4 +1,4 @@
-//! The input of every call: a registry of twelve types, and a value of the ninth of them.
+//! The input of every call: a registry of twelve types, and a value of its ninth type.
 
 use decode_core::decode_pieces;
 use registry_core::{Registry, TypeId, read_registry};
@@ -6,10 +6,11 @@ use std::alloc::Global;
 use value_core::{Limits, Value};
 use widths_core::Checked;
 
-/// A registry after the prefix of metadata: a text, a u128, a u256, an option of a character, the
-/// character, the unit, a sequence of units, a compact u128, a composite of six of these and of the
-/// tenth and the last type, a composite of two characters, a u8 and a sequence of it, in their one
-/// spelling. The names of both composites are out of order.
+/// A registry after the prefix of metadata, in its canonical encoding. Types 0 to 4 are a text, a
+/// u128, a u256, an option of a character and the character. Types 5 to 7 are the unit, a sequence
+/// of units and a compact u128. Type 8 is a composite of six of these and of types 9 and 11. Types
+/// 9 to 11 are a composite of two characters, a u8 and a sequence of it. The field names of both
+/// composites are out of order.
 pub(crate) const METADATA: &[u8] = b"meta\x0e\x30\
       \x00\x00\x00\x05\x02\x00\
       \x04\x00\x00\x05\x07\x00\
@@ -34,7 +35,7 @@ pub(crate) const METADATA: &[u8] = b"meta\x0e\x30\
       \x28\x00\x00\x05\x03\x00\
       \x2c\x00\x00\x02\x28\x00";
 
-/// So many bytes stand before the registry.
+/// The number of bytes before the registry.
 const PREFIX: usize = 5;
 
 /// The position of the composite of eight fields.
@@ -47,31 +48,31 @@ pub(crate) const VALUE: &[u8] =
       \x00\x00\x00\x00\x00\x00\x00\x00\x00\x00\x00\x00\x00\x00\x00\x00\x00\x00\x00\x00\x00\x00\x00\
       \x00\x00\x00\x00\x00\x01x\x00\x00\x00\x0c\x04y\x00\x00\x00z\x00\x00\x00\x08\x07\xff";
 
-/// The text of the value's JSON.
+/// The value's JSON.
 pub(crate) const TEXT: &str = "{\"amount\":\"7\",\"code\":\"0x07ff\",\"fee\":\"1\",\
      \"hash\":\"0x0000000000000000000000000000000000000000000000000000000000000001\",\
      \"kind\":{\"Some\":[\"x\"]},\"name\":\"SCALE\",\"pair\":{\"a\":\"z\",\"b\":\"y\"},\"ticks\":{\"count\":3}}";
 
-/// How many members the object of that text has.
+/// The number of members of the value's JSON object.
 pub(crate) const MEMBERS: usize = 8;
 
-/// The bytes of the registry alone.
+/// Returns the bytes of the registry alone.
 pub(crate) fn registry_bytes() -> &'static [u8] {
     &METADATA[PREFIX..]
 }
 
-/// The registry, unless an allocation fails.
+/// Returns the registry, or `None` if an allocation fails.
 pub(crate) fn registry(alloc: Global) -> Option<Registry> {
     let (registry, _) = read_registry(alloc, registry_bytes()).ok()?;
     Some(registry)
 }
 
-/// The registry, checked, unless an allocation fails.
+/// Returns the checked registry, or `None` if an allocation fails.
 pub(crate) fn checked(alloc: Global) -> Option<Checked> {
     Checked::new(alloc, registry(alloc)?).ok()
 }
 
-/// The value, unless an allocation fails.
+/// Returns the value, or `None` if an allocation fails.
 pub(crate) fn value(alloc: Global, checked: &Checked) -> Option<Value<'_, Global>> {
     let (value, _) = decode_pieces(alloc, checked, TYPE, Limits::default_limits(), &[VALUE]).ok()?;
     Some(value)

@@ -1,5 +1,4 @@
-//! The calls that write one value after what a vector holds: each is made once, and a line says
-//! what came of it.
+//! The calls that append one value to a vector. Each is made once, and a line reports its outcome.
 
 use crate::calls::line_where;
 use scale_core::{
@@ -8,10 +7,10 @@ use scale_core::{
 };
 use std::alloc::{AllocError, Global};
 
-/// What the vector holds before the call. It has no room for more.
+/// The content of the vector before the call. The vector has no spare capacity.
 const FRONT: &[u8] = b"front";
 
-/// What a call answered, and the bytes that it is to write.
+/// The result of a call, and the bytes that it should write.
 type Written = (Result<(), AllocError>, &'static [u8]);
 
 /// Makes the call of this name, if it writes an unsigned integer.
@@ -70,8 +69,9 @@ fn write(out: &mut Vec<u8>, name: &str) -> Option<Written> {
     write_other(out, name)
 }
 
-/// The line of the call of this name: that the bytes stand after the front, or that the front alone
-/// stands. An error where there is no memory for the front.
+/// Makes the call of this name, and returns the line of its outcome, or `None` if no call has the
+/// name. The line says that the bytes were appended, or that the vector is unchanged. Fails if the
+/// first bytes cannot be allocated.
 pub(crate) fn write_line(alloc: Global, name: &str) -> Result<Option<&'static str>, AllocError> {
     let mut out = Vec::from_slice(alloc, FRONT)?;
     let Some((answer, bytes)) = write(&mut out, name) else {

@@ -1,4 +1,5 @@
-//! JSON texts in memory with room and without, and printed to writers that fail.
+//! JSON texts written to slices that are long enough or too short, and printed to writers that
+//! fail.
 
 use crate::expect::same;
 use decoder_calls::calls::front_of;
@@ -14,8 +15,8 @@ use std::process::Abort;
 use std::test::Fail;
 use value_core::{Builder, Value, WriteFault};
 
-/// Memory of each size up to a byte more than the text: the text is put to the front where it has
-/// room, and nothing else changes.
+/// Checks slices of every length up to one byte more than the text. The text is written at the
+/// start if it fits, and nothing else changes.
 fn check_slice(
     rt: &impl Abort,
     alloc: Global,
@@ -47,7 +48,8 @@ fn check_slice(
     Ok(())
 }
 
-/// Writers that end at this place of the text: it is reported, and the front went out.
+/// Checks writers that end at this place of the text. The error reports the place, and the bytes
+/// before it were written.
 fn check_place(
     rt: &impl Abort,
     alloc: Global,
@@ -80,8 +82,8 @@ fn check_place(
     }
 }
 
-/// Decodes the row's value, and looks at every room for its text and at every place where a writer
-/// may end.
+/// Decodes the row's value. Checks its text for every length of a slice, and for every place where
+/// a writer may end.
 fn check_row(rt: &impl Abort, alloc: Global, row: &Row) -> Result<(), Fail> {
     let checked = checked(alloc, row.registry)?;
     let Ok((value, _)) = front_of(alloc, &checked, row.ty, AMPLE, &[row.bytes]) else {

@@ -1,4 +1,5 @@
-//! Tests of JSON texts: in memory with room and without, and printed to writers that fail.
+//! Tests of JSON texts: written to slices that are long enough or too short, and printed to writers
+//! that fail.
 #![tactic(auto)]
 
 #[cfg(test)]

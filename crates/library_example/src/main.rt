@@ -1,4 +1,4 @@
-//! An example of the library: an account, whose bytes come in pieces, is decoded, walked and
+//! An example of the library: an account, whose bytes arrive in pieces, is decoded, walked and
 //! printed as JSON.
 #![tactic(auto)]
 
@@ -20,10 +20,10 @@ const REGISTRY: [u8; 46] = *b"\x0c\
     \x04\x00\x00\x05\x02\x00\
     \x08\x04\x1cAccount\x00\x00\x08\x01\x10name\x04\x00\x00\x01\x14nonce\x00\x00\x00\x00";
 
-/// What `Account` is called in a registry: its position.
+/// The type `Account`, by its position in the registry.
 const ACCOUNT: TypeId = TypeId(2);
 
-/// An account's bytes as a connection may bring them, with two bytes of what follows it.
+/// An account's bytes as a connection may deliver them, with two bytes that follow it.
 const PIECES: [&[u8]; 3] = [b"\x0cAd", b"a\x07", b"\x00\x00\x00\x0cB"];
 
 /// Why no account is shown. Its text is one line.
@@ -43,14 +43,13 @@ enum Failure {
     Output(#[from] io::Error),
 }
 
-/// The registry that the bytes begin with, once its types are known to refer to types that are
-/// there.
+/// Reads the registry that the bytes begin with, and checks that its types refer to existing types.
 fn open_registry(alloc: Global, bytes: &[u8]) -> Result<Checked, Failure> {
     let (registry, _) = read_registry(alloc, bytes)?;
     Checked::new(alloc, registry).map_err(|(fault, _)| Failure::Check(fault))
 }
 
-/// The account in these pieces: what came of each is reported as it comes.
+/// Decodes the account in these pieces, and reports the progress after each piece.
 fn decode_account<'r, W: Write>(
     alloc: Global,
     checked: &'r Checked,

@@ -9,7 +9,7 @@ use std::process::Abort;
 use std::test::Fail;
 use widths_core::{Checked, Class};
 
-/// All types of the registry are empty: so many, of which the widest has so many parts.
+/// Checks that the registry has `count` types, all empty, and that the widest has `widest` parts.
 fn check_empty(rt: &impl Abort, registry: &Checked, count: u32, widest: u32) {
     let reported = (registry.registry().types().len(), registry.widest());
     same(rt, reported, (count as usize, widest));
@@ -22,7 +22,7 @@ fn check_empty(rt: &impl Abort, registry: &Checked, count: u32, widest: u32) {
     }
 }
 
-/// 2000 types: the one at each position is a tuple of the one type after it, and the last one the
+/// Returns a registry of 2000 types. Each is a tuple of the type after it, and the last is the
 /// empty tuple.
 fn chain_of_tuples(alloc: Global) -> Result<Vec<u8>, AllocError> {
     let mut bytes = Vec::new(alloc);

@@ -6,7 +6,7 @@ use scale_tests::stuttering::StutteringWriter;
 use std::io;
 use std::io::Read;
 
-/// A reader that gives one byte a call, the number of the call; the second call is interrupted.
+/// A reader that gives one byte a call, the number of the call. The second call is interrupted.
 #[derive(Drop)]
 struct StutteringReader {
     calls: u8,

@@ -1,4 +1,4 @@
-//! Fixed-width integers, booleans and characters: each read and written once.
+//! Fixed-width integers, booleans and characters: each is read and written once.
 
 use crate::expect::same;
 use scale_core::{
@@ -70,7 +70,7 @@ fn long_signed_integers_are_read(rt: HostRuntime) {
     same(&rt, read_i128(&[0xff; 16]), Ok((-1, 16)));
 }
 
-/// An integer of 32 bytes, of which the first and the last are not 0.
+/// Returns an integer of 32 bytes, the first and the last of which are not 0.
 fn wide() -> [u8; 32] {
     let mut wide = [0; 32];
     wide[0] = 1;

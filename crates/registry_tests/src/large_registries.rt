@@ -1,5 +1,4 @@
-//! Registries that are large: where memory is granted they are read, checked and written back, and
-//! none is refused for want of it.
+//! Large registries: if no allocation fails, they are read, checked and written back.
 
 use crate::expect::same;
 use registry_core::{Registry, TypeId, Version, read_metadata, read_registry, write_registry};
@@ -9,7 +8,8 @@ use std::process::Abort;
 use std::test::Fail;
 use widths_core::{CheckFault, Checked, Class};
 
-/// The registry is read whole and written back: so many types.
+/// Reads the registry from all of the bytes, and returns it. Checks its number of types, and that
+/// it is written as the same bytes.
 fn read_whole(rt: &impl Abort, alloc: Global, bytes: &[u8], types: u32) -> Result<Registry, Fail> {
     let (registry, count) = read_registry(alloc, bytes)?;
     let reported = (registry.types().len(), count);
@@ -19,7 +19,7 @@ fn read_whole(rt: &impl Abort, alloc: Global, bytes: &[u8], types: u32) -> Resul
     Ok(registry)
 }
 
-/// The registry is checked, and the last of its types takes bytes.
+/// Checks that `Checked::new` accepts the registry, and that the last of its types takes bytes.
 fn check_last(rt: &impl Abort, alloc: Global, registry: Registry, last: u32) -> Result<(), Fail> {
     let Ok(checked) = Checked::new(alloc, registry) else {
         return Err("no checked registry")?;
@@ -29,7 +29,8 @@ fn check_last(rt: &impl Abort, alloc: Global, registry: Registry, last: u32) -> 
     Ok(())
 }
 
-/// The registry is read whole as metadata.
+/// Reads the registry as metadata of version 15. Checks its number of types, and that all bytes are
+/// read.
 fn check_metadata(rt: &impl Abort, alloc: Global, bytes: &[u8], types: u32) -> Result<(), Fail> {
     let mut metadata = Vec::from_slice(alloc, b"\x6d\x65\x74\x61\x0f")?;
     metadata.extend_from_slice(bytes)?;
@@ -39,8 +40,8 @@ fn check_metadata(rt: &impl Abort, alloc: Global, bytes: &[u8], types: u32) -> R
     Ok(())
 }
 
-/// The registry is read whole, also as metadata, checked, and written back: so many types, all of
-/// which take bytes.
+/// Reads a registry of this many types, writes it back, checks it, and reads it as metadata. Its
+/// last type takes bytes.
 fn check_registry(rt: &impl Abort, alloc: Global, bytes: &[u8], types: u32) -> Result<(), Fail> {
     let registry = read_whole(rt, alloc, bytes, types)?;
     check_last(rt, alloc, registry, types.saturating_sub(1))?;
@@ -59,7 +60,7 @@ fn a_long_text_is_read(rt: HostRuntime) -> Result<(), Fail> {
     check_registry(&rt, rt.alloc(), &bytes, 1)
 }
 
-/// So many types, each a u8.
+/// Returns a registry of `count` types, each a u8.
 fn many_types(alloc: Global, count: u32) -> Result<Vec<u8>, AllocError> {
     let mut bytes = Vec::new(alloc);
     write_compact(&mut bytes, u128::from(count))?;
@@ -76,8 +77,8 @@ fn many_types_are_read(rt: HostRuntime) -> Result<(), Fail> {
     check_registry(&rt, rt.alloc(), &bytes, 200_000)
 }
 
-/// A variant of so many arms, none of which has a name; each has a field of the type itself, but
-/// for the first.
+/// Returns a registry of a variant with `count` arms without names. Every arm but the first has a
+/// field of the variant's type.
 fn many_arms(alloc: Global, count: u32) -> Result<Vec<u8>, AllocError> {
     let mut bytes = Vec::from_slice(alloc, b"\x04\x00\x00\x00\x01")?;
     write_compact(&mut bytes, u128::from(count))?;
@@ -107,7 +108,7 @@ fn many_arms_are_read(rt: HostRuntime) -> Result<(), Fail> {
     Ok(())
 }
 
-/// A composite of so many u8, and the type u8.
+/// Returns a registry of a composite of `count` u8, and of the type u8.
 fn many_fields(alloc: Global, count: u32) -> Result<Vec<u8>, AllocError> {
     let mut bytes = Vec::from_slice(alloc, b"\x08\x00\x00\x00\x00")?;
     write_compact(&mut bytes, u128::from(count))?;
@@ -129,7 +130,7 @@ fn many_fields_are_read(rt: HostRuntime) -> Result<(), Fail> {
     Ok(())
 }
 
-/// 65,537 types, of which the last is a sequence of the greatest id that there is.
+/// Returns a registry of 65,537 types, the last of which is a sequence of the greatest possible id.
 fn with_unknown_reference(alloc: Global) -> Result<Vec<u8>, Fail> {
     let front = many_types(alloc, 65_536)?;
     let mut bytes = Vec::new(alloc);
@@ -156,7 +157,7 @@ fn an_unknown_reference_of_the_last_type_is_reported(rt: HostRuntime) -> Result<
     Ok(())
 }
 
-// A registry without types is one byte, and what follows it is left.
+// A registry without types is one byte, and the bytes after it are not taken.
 #[test]
 fn no_types_are_one_byte(rt: HostRuntime) -> Result<(), Fail> {
     let (registry, count) = read_registry(rt.alloc(), b"\x00\xff")?;

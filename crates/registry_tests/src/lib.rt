@@ -1,5 +1,5 @@
-//! Tests of registries and of what they are made of: integers and texts, the parts of types as they
-//! are lent, what claimed lengths reserve, and large registries.
+//! Tests of registries and their parts: integers and texts, the parts of types, the memory that
+//! claimed lengths reserve, and large registries.
 #![tactic(auto)]
 
 #[cfg(test)]

@@ -1,5 +1,5 @@
-//! Memory: what lengths reserve that are claimed only, and how much room the tables of a checked
-//! registry take.
+//! The memory that claimed lengths reserve, and the sizes of the parts of a registry and of its
+//! tables.
 
 use crate::expect::same;
 use registry_core::{
@@ -13,7 +13,7 @@ use std::rt::Files;
 use std::test::Fail;
 use widths_core::{ArmStep, TypeStep};
 
-/// The lists and texts of a registry, each with the bytes that stand before its length.
+/// The lists and texts of a registry, each with the bytes before its length.
 const PLACES: [(&str, &[u8]); 22] = [
     ("types", b""),
     ("a path", b"\x04\x00"),
@@ -69,24 +69,24 @@ const PLACES: [(&str, &[u8]); 22] = [
     ),
 ];
 
-/// The lengths 1048576, for which memory would be granted, and 1073741823 and 4294967295, the
-/// greatest of four bytes and the greatest there is.
+/// The lengths 1048576, which could be allocated, 1073741823, the greatest in four bytes, and
+/// 4294967295, the greatest of all.
 const LENGTHS: [&[u8]; 3] = [
     b"\x02\x00\x40\x00",
     b"\xfe\xff\xff\xff",
     b"\x03\xff\xff\xff\xff",
 ];
 
-/// How many KiB this process has reserved, and the most that it ever had.
+/// The memory that this process has reserved, and the most that it ever had, in KiB.
 ///
-/// What was reserved and never written to counts too.
+/// Memory that was never written to counts too.
 #[derive(Clone, Copy)]
 struct Reserved {
     now: u64,
     most: u64,
 }
 
-/// The number after the name in what the system says of this process.
+/// Returns the number after the name in the status of this process.
 fn number_after(status: &str, name: &str) -> Result<u64, Fail> {
     'lines: for line in status.lines() {
         if let Some(rest) = line.strip_prefix(name) {
@@ -97,7 +97,7 @@ fn number_after(status: &str, name: &str) -> Result<u64, Fail> {
     Err("the system does not say it")?
 }
 
-/// What this process has reserved, as the system counts it.
+/// Returns the memory that this process has reserved, as the system counts it.
 fn measured(rt: &(impl Files + Alloc)) -> Result<Reserved, Fail> {
     let status = fs::read_to_string(rt, "/proc/self/status")?;
     let now = number_after(status.as_str(), "VmSize:")?;
@@ -105,8 +105,8 @@ fn measured(rt: &(impl Files + Alloc)) -> Result<Reserved, Fail> {
     Ok(Reserved { now, most })
 }
 
-/// From one measure to the next this many KiB were reserved and kept, and never as much as 1 MiB
-/// more.
+/// Checks that at least this many KiB were reserved and kept from one measurement to the next, and
+/// never as much as 1 MiB more.
 fn check_growth(rt: &impl Abort, before: Reserved, after: Reserved, kib: u64) {
     let kept = after.now.saturating_sub(before.now);
     let most = after.most.saturating_sub(before.now);
@@ -118,7 +118,7 @@ fn check_growth(rt: &impl Abort, before: Reserved, after: Reserved, kib: u64) {
     );
 }
 
-/// The answer to a registry that ends at this place.
+/// Returns the error of a registry that ends at this place.
 fn cut_at(at: usize) -> Option<RegistryFault> {
     Some(RegistryFault {
         reason: RegistryReason::Truncated,
@@ -126,7 +126,7 @@ fn cut_at(at: usize) -> Option<RegistryFault> {
     })
 }
 
-/// A registry that ends after the claimed length is refused there.
+/// Checks that a registry that ends after the claimed length is rejected at its end.
 fn check_claim(
     rt: &impl Abort,
     alloc: Global,
@@ -145,7 +145,7 @@ fn check_claim(
     Ok(())
 }
 
-/// Metadata whose registry ends after the claimed length is refused there.
+/// Checks that metadata whose registry ends after the claimed length is rejected at its end.
 fn check_claim_of_metadata(
     rt: &impl Abort,
     alloc: Global,
@@ -165,7 +165,7 @@ fn check_claim_of_metadata(
     Ok(())
 }
 
-/// Each length that is claimed at the place.
+/// Checks every claimed length at the place.
 fn check_place(rt: &impl Abort, alloc: Global, name: &str, front: &[u8]) -> Result<(), Fail> {
     'lengths: for length in LENGTHS {
         check_claim(rt, alloc, name, front, length)?;
@@ -174,8 +174,8 @@ fn check_place(rt: &impl Abort, alloc: Global, name: &str, front: &[u8]) -> Resu
     Ok(())
 }
 
-// A reader that asks for room at once either gets it, and is measured, or does not, and answers
-// `OutOfMemory`.
+// A reader that allocates for a claimed length either succeeds, which the measurement shows, or
+// fails with `OutOfMemory`.
 #[test]
 fn claimed_lengths_reserve_nothing(rt: HostRuntime) -> Result<(), Fail> {
     let before = measured(&rt)?;
@@ -187,7 +187,8 @@ fn claimed_lengths_reserve_nothing(rt: HostRuntime) -> Result<(), Fail> {
     Ok(())
 }
 
-// The measure sees room that is asked for at once, here 1 GiB, of which one byte is used.
+// The measurement includes capacity that is allocated at once, here 1 GiB, of which one byte is
+// used.
 #[test]
 fn room_that_is_asked_for_at_once_is_measured(rt: HostRuntime) -> Result<(), Fail> {
     let before = measured(&rt)?;
@@ -199,7 +200,7 @@ fn room_that_is_asked_for_at_once_is_measured(rt: HostRuntime) -> Result<(), Fai
     Ok(())
 }
 
-/// A composite of 32,800 fields without names.
+/// Returns a registry of a composite of 32,800 fields without names.
 fn many_fields(alloc: Global) -> Result<Vec<u8>, AllocError> {
     let mut bytes = Vec::from_slice(alloc, b"\x04\x00\x00\x00\x00")?;
     write_compact(&mut bytes, 32_800)?;
@@ -210,10 +211,9 @@ fn many_fields(alloc: Global) -> Result<Vec<u8>, AllocError> {
     Ok(bytes)
 }
 
-// A list grows by what was read, and no further than to what it claims to have: 3075 KiB here. To
-// grow it may be copied, and then the 2048 KiB count too that it had before. A vector that doubles,
-// or grows to four times its length whatever is claimed, has room for 65,536 fields, which are 6144
-// KiB.
+// A list grows with what was read, and at most to its claimed length, which takes 3075 KiB here. It
+// may be copied to grow, and then its previous 2048 KiB count too. A vector that doubles, or grows
+// fourfold whatever is claimed, has a capacity of 65,536 fields, which take 6144 KiB.
 #[test]
 fn a_whole_list_has_no_room_to_spare(rt: HostRuntime) -> Result<(), Fail> {
     let bytes = many_fields(rt.alloc())?;

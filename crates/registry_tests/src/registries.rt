@@ -1,4 +1,4 @@
-//! The parts of a registry's types as they are lent, and the printed text of faults.
+//! The parts of a registry's types, and the printed text of faults.
 
 use crate::expect::same;
 use registry_core::{
@@ -12,7 +12,7 @@ use std::test::Fail;
 const OPTION: &[u8] =
     b"\x08\x00\x00\x00\x05\x05\x00\x04\x04\x18\x4f\x70\x74\x69\x6f\x6e\x04\x04\x54\x01\x00\x01\x08\x10\x4e\x6f\x6e\x65\x00\x00\x00\x10\x53\x6f\x6d\x65\x04\x00\x00\x01\x04\x54\x00\x01\x00\x00";
 
-/// The second of the registry's two types.
+/// Returns the second of the registry's two types.
 fn second_of(registry: &Registry) -> Result<&TypeInfo, &'static str> {
     match registry.types() {
         [_, info] => Ok(info),
@@ -20,7 +20,7 @@ fn second_of(registry: &Registry) -> Result<&TypeInfo, &'static str> {
     }
 }
 
-/// The arms of the type.
+/// Returns the arms of a variant.
 fn arms_of(info: &TypeInfo) -> Result<&[Arm], &'static str> {
     match &info.shape {
         TypeDef::Variant(arms) => Ok(arms.as_slice()),
@@ -28,7 +28,7 @@ fn arms_of(info: &TypeInfo) -> Result<&[Arm], &'static str> {
     }
 }
 
-/// The one element of the list.
+/// Returns the only element of the list.
 fn only<T>(items: &Items<T>) -> Result<&T, &'static str> {
     match items.as_slice() {
         [item] => Ok(item),
@@ -47,7 +47,7 @@ fn the_path_and_the_parameters_of_a_type_are_seen(rt: HostRuntime) -> Result<(),
     Ok(())
 }
 
-/// The arm has this name, this index and so many fields.
+/// Checks the arm's name, its index and its number of fields.
 fn check_arm(rt: &impl Abort, arm: &Arm, name: &str, index: u8, fields: usize) {
     same(rt, arm.name.as_str(), name);
     same(rt, (arm.index, arm.fields.len()), (index, fields));

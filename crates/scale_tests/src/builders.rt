@@ -1,5 +1,5 @@
-//! What most tests do with a builder: begin it, make calls that are not refused, and take the value
-//! that they built.
+//! What most tests do with a builder: create it, make calls that succeed, and take the value that
+//! they build.
 
 use crate::building::{Call, add, written};
 use registry_core::TypeId;
@@ -25,7 +25,7 @@ pub fn begun<'r, A: Allocator + Clone>(
     }
 }
 
-/// Makes these calls, none of which is rejected.
+/// Makes these calls, and stops at the first one that is rejected.
 ///
 /// # Errors
 ///
@@ -37,7 +37,7 @@ pub fn add_all<A: Allocator>(builder: &mut Builder<'_, A>, calls: &[Call<'_>]) -
     Ok(())
 }
 
-/// Returns the value of a builder that lacks no node.
+/// Finishes a builder that lacks no node, and returns its value.
 ///
 /// # Errors
 ///
@@ -66,7 +66,7 @@ pub fn built<'r>(
     finished(builder)
 }
 
-/// How many nodes the value holds, and how many bytes of texts and runs of bytes.
+/// Returns the value's number of nodes, and its number of bytes of texts and runs.
 pub fn counts<A: Allocator>(value: &Value<'_, A>) -> (u64, u64) {
     (value.node_count(), value.text_bytes())
 }
@@ -75,7 +75,7 @@ pub fn counts<A: Allocator>(value: &Value<'_, A>) -> (u64, u64) {
 ///
 /// # Errors
 ///
-/// If a write fails.
+/// If a write fails, or the bytes differ.
 pub fn check_written<A: Allocator>(
     alloc: Global,
     value: &Value<'_, A>,

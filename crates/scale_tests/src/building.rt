@@ -31,7 +31,7 @@ pub enum Call<'a> {
     List(u32),
 }
 
-/// What a builder reports of what it holds and of what comes next.
+/// The counts of a builder, what comes next in it, and at which depth.
 #[derive(Clone, Copy, Debug, PartialEq, Eq)]
 pub struct Standing {
     pub nodes: u64,
@@ -44,7 +44,7 @@ pub struct Standing {
 ///
 /// # Errors
 ///
-/// If they hold no registry, or a type refers to one that is not there.
+/// If they hold no registry, or a type refers to one that doesn't exist.
 pub fn checked(alloc: Global, bytes: &[u8]) -> Result<Checked, Fail> {
     let (registry, _) = read_registry(alloc, bytes)?;
     match Checked::new(alloc, registry) {
@@ -57,7 +57,7 @@ pub fn checked(alloc: Global, bytes: &[u8]) -> Result<Checked, Fail> {
 ///
 /// # Errors
 ///
-/// What the builder rejects it for.
+/// The error with which the builder rejects the call.
 pub fn add<A: Allocator>(builder: &mut Builder<'_, A>, call: Call<'_>) -> Result<(), BuildFault> {
     match call {
         Call::Empty => builder.empty(),
@@ -82,7 +82,7 @@ pub fn add<A: Allocator>(builder: &mut Builder<'_, A>, call: Call<'_>) -> Result
     }
 }
 
-/// What the builder reports.
+/// Returns the counts of the builder, what comes next in it, and at which depth.
 pub fn what_stands<A: Allocator>(builder: &Builder<'_, A>) -> Standing {
     Standing {
         nodes: builder.node_count(),

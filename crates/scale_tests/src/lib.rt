@@ -1,5 +1,5 @@
-//! What the tests of several crates share: registries, what a worked row is, a builder's calls as
-//! data, and devices and an allocator that fail.
+//! Helpers that the tests of several crates share: registries, rows with their answers, a builder's
+//! calls as data, and devices and an allocator that fail.
 #![tactic(auto)]
 
 pub mod builders;

@@ -7,7 +7,7 @@ use std::io::{Read, Write};
 /// What a device does once its bytes have moved.
 #[derive(Clone, Copy, Debug, PartialEq, Eq)]
 pub enum Then {
-    /// A reader is at its end, a writer takes more.
+    /// A reader is at its end, and a writer takes more.
     GoesOn,
     Fails,
     /// A writer takes nothing.
@@ -23,7 +23,7 @@ pub struct PacedReader<'a> {
 }
 
 impl<'a> PacedReader<'a> {
-    /// Creates a reader of these bytes, at most `step` at once, which then does this.
+    /// Creates a reader of these bytes, at most `step` a call, which then behaves as `then` says.
     pub fn new(bytes: &'a [u8], step: usize, then: Then) -> PacedReader<'a> {
         PacedReader { bytes, step, then }
     }
@@ -42,7 +42,7 @@ impl Read for PacedReader<'_> {
     }
 }
 
-/// A writer that takes at most `step` bytes a call, and `room` bytes before it does something else.
+/// A writer that takes at most `step` bytes a call. After `room` bytes it behaves as `then` says.
 #[derive(Drop)]
 pub struct PacedWriter {
     pub taken: Vec<u8>,
@@ -54,7 +54,8 @@ pub struct PacedWriter {
 }
 
 impl PacedWriter {
-    /// Creates a writer with room for `room` bytes, at most `step` at once, which then does this.
+    /// Creates a writer that takes `room` bytes, at most `step` a call, and then behaves as `then`
+    /// says.
     pub fn new(alloc: Global, room: usize, step: usize, then: Then) -> PacedWriter {
         PacedWriter {
             taken: Vec::new(alloc),
@@ -86,7 +87,7 @@ impl Write for PacedWriter {
     }
 }
 
-/// A reader that gives `head` and then so many letters a.
+/// A reader that gives `head` and then `letters` letters `a`.
 #[derive(Drop)]
 pub struct LetterReader {
     head: &'static [u8],

@@ -1,18 +1,18 @@
-//! An allocator that refuses one request and serves all others.
+//! An allocator that fails one request and serves all others.
 
 use std::alloc::{AllocError, Allocator};
 use std::cell::Cell;
 
-/// An allocator that counts the requests for memory and refuses one of them. All others are another
-/// allocator's to answer. A clone is a request too, and counts for itself from there on.
+/// An allocator that counts its requests and fails one of them. It passes all others on to another
+/// allocator. A clone is a request too, and counts separately from then on.
 pub struct Rationed<B: Allocator> {
     inner: B,
     until_refusal: Cell<u64>,
 }
 
 impl<B: Allocator> Rationed<B> {
-    /// Refuses the request of this number, where the first has the number 1. With 0 none is
-    /// refused.
+    /// Creates an allocator that fails the request of this number, counted from 1. With 0, no
+    /// request fails.
     pub fn new(inner: B, refused: u64) -> Rationed<B> {
         Rationed {
             inner,
@@ -20,7 +20,7 @@ impl<B: Allocator> Rationed<B> {
         }
     }
 
-    /// Is the request that is refused after it, or is there none?
+    /// Returns whether the failing request was made already, or there is none.
     pub fn is_past_refusal(&self) -> bool {
         self.until_refusal.get() == 0
     }
@@ -45,7 +45,7 @@ impl<B: Allocator + Clone> Clone for Rationed<B> {
     }
 }
 
-/// Counts a request: is it the one that is refused?
+/// Counts a request, and returns whether it is the one that fails.
 fn is_refused(until_refusal: &Cell<u64>) -> bool {
     let left = until_refusal.get();
     until_refusal.set(left.saturating_sub(1));

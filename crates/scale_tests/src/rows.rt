@@ -1,4 +1,5 @@
-//! Rows that are run over devices which fail, and limits. All other rows are data of `vectors`.
+//! Rows that tests run over failing devices, and the default limits. All other rows are data of
+//! `vectors`.
 
 use crate::registries::{BITS_IN_AN_ARM, NESTED, OPTION, TWO_UNITS_AND_A_BYTE, U16};
 use value_core::Limits;
@@ -10,13 +11,13 @@ pub struct Row {
     pub registry: &'static [u8],
     pub ty: u32,
     pub bytes: &'static [u8],
-    /// The value's JSON; empty where the bytes are refused.
+    /// The value's JSON, or empty if the bytes are rejected.
     pub json: &'static str,
-    /// The refusal as it is printed; empty where the bytes are one value.
+    /// The error as it is printed, or empty if the bytes are one value.
     pub refusal: &'static str,
 }
 
-/// A depth of 64, and 16 MiB: the limits where none are named.
+/// The default limits: a depth of 64, and 16 MiB.
 pub const AMPLE: Limits = Limits {
     depth: 64,
     bytes: 16_777_216,

@@ -12,8 +12,8 @@ use std::process::Abort;
 use std::test::Fail;
 use value_core::{Value, WriteFault, encode};
 
-/// Encodes the value to a writer that takes so many bytes a call: it gets these bytes in so many
-/// writes.
+/// Encodes the value to a writer that takes `step` bytes a call. Checks the bytes that it gets, and
+/// the number of writes.
 fn check_writes(
     rt: &impl Abort,
     alloc: Global,
@@ -28,8 +28,7 @@ fn check_writes(
     same(rt, (writer.taken.as_slice(), writer.writes), wanted);
 }
 
-// The own bytes of a node and those of its run are a write each, where the writer takes them at
-// once.
+// The bytes of a node and those of its run are one write each, if the writer takes them at once.
 #[test]
 fn a_node_takes_two_writes_at_most(rt: HostRuntime) -> Result<(), Fail> {
     let checked = checked(rt.alloc(), TEXT_AND_BYTES)?;

@@ -1,4 +1,4 @@
-//! The capacity that a full vector gets.
+//! The capacity to which a full vector grows.
 
 use crate::expect::same;
 use growth_core::{make_room, make_room_ahead};

@@ -12,7 +12,7 @@ use std::test::Fail;
 use value_core::{NodeRef, Value, What};
 use widths_core::Class;
 
-/// A u128, an i128, and as the type 2 a compact of the u128.
+/// A u128, an i128, and as type 2 a compact of the u128.
 const NUMBERS: &[u8] =
     b"\x0c\x00\x00\x00\x05\x07\x00\x04\x00\x00\x05\x0d\x00\x08\x00\x00\x06\x00\x00";
 
@@ -120,7 +120,7 @@ type Tree = (
     &'static [Reported],
 );
 
-/// The second has a subtree of three nodes, with a node after it.
+/// The second value has a subtree of three nodes, with a node after it.
 const TREES: [Tree; 2] = [
     (
         TWO_UNITS_AND_A_BYTE,
@@ -170,7 +170,7 @@ fn children_step_over_what_is_below_them(rt: HostRuntime) -> Result<(), Fail> {
     Ok(())
 }
 
-/// Returns the node's child, where it has exactly one.
+/// Returns the node's child, if it has exactly one.
 fn only_child<'v, 'r>(node: &NodeRef<'v, 'r>) -> Option<NodeRef<'v, 'r>> {
     let mut children = node.children();
     let child = children.next();
@@ -199,7 +199,7 @@ fn a_chain_of_arms_is_one_child_in_another(rt: HostRuntime) -> Result<(), Fail> 
     Ok(())
 }
 
-/// A text, whole and in pieces.
+/// Calls that add a text, at once and in pieces.
 const TEXT_CALLS: [&[Call<'static>]; 2] = [
     &[Call::Text("\u{e9}a")],
     &[
@@ -224,7 +224,7 @@ fn a_text_is_lent(rt: HostRuntime) -> Result<(), Fail> {
     Ok(())
 }
 
-/// A run of bytes, whole and in pieces.
+/// Calls that add a run of bytes, at once and in pieces.
 const RUN_CALLS: [&[Call<'static>]; 2] = [
     &[Call::Bytes(b"\x61\xff")],
     &[

@@ -1,4 +1,4 @@
-//! What a walk reports beside what comes next, and the greatest depth.
+//! What a walk reports besides what comes next, and the greatest depth.
 
 use crate::expect::same;
 use scale_tests::builders::{begun, counts, finished};
@@ -9,8 +9,8 @@ use std::process::Abort;
 use std::test::Fail;
 use value_core::{Builder, Form, Limits, Next};
 
-/// Calls on a tuple of a sequence of u16 and a u8, and after each whether a list is the innermost
-/// open node, and how many elements follow the next one.
+/// Calls that build a tuple of a sequence of u16 and a u8, each with what `is_in_list` and
+/// `elements_after` return after it.
 const FOLLOWED: [(Call<'static>, bool, u32); 6] = [
     (Call::Fields, false, 0),
     (Call::List(3), true, 2),
@@ -45,7 +45,7 @@ fn check_next(rt: &impl Abort, builder: &Builder<'_, Global>, next: Next, depth:
     same(rt, (standing.next, standing.depth), (next, depth));
 }
 
-// The root has depth 0, so the node with 1024 around it is the deepest that a builder takes.
+// The root has depth 0, so a node inside 1024 others is the deepest that a builder accepts.
 #[test]
 fn a_walk_goes_to_the_greatest_depth(rt: HostRuntime) -> Result<(), Fail> {
     let checked = checked(rt.alloc(), CHAIN)?;

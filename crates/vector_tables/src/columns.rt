@@ -3,12 +3,12 @@
 use crate::wrong::Wrong;
 use std::alloc::Global;
 
-/// Returns whether the column holds nothing.
+/// Returns whether the column is a dash, which stands for nothing.
 pub fn is_nothing(column: &str) -> bool {
     column == "-"
 }
 
-/// Reads bytes in hexadecimal digits; a dash stands for none.
+/// Reads bytes in hexadecimal digits. A dash stands for no bytes.
 ///
 /// # Errors
 ///
@@ -27,7 +27,7 @@ pub fn bytes_of(alloc: Global, column: &str) -> Result<Vec<u8>, Wrong> {
 ///
 /// # Errors
 ///
-/// If the column is no number below 2^64.
+/// If the column is not a number below 2^64.
 pub fn number_of(column: &str) -> Result<u64, Wrong> {
     column.parse::<u64>().ok().ok_or(Wrong::Column("a number"))
 }
@@ -36,7 +36,7 @@ pub fn number_of(column: &str) -> Result<u64, Wrong> {
 ///
 /// # Errors
 ///
-/// If the column is no number below 2^32.
+/// If the column is not a number below 2^32.
 pub fn type_of(column: &str) -> Result<u32, Wrong> {
     column.parse::<u32>().ok().ok_or(Wrong::Column("a type"))
 }
@@ -45,7 +45,7 @@ pub fn type_of(column: &str) -> Result<u32, Wrong> {
 ///
 /// # Errors
 ///
-/// If the column is no number below 2^16.
+/// If the column is not a number below 2^16.
 pub fn depth_of(column: &str) -> Result<u16, Wrong> {
     column.parse::<u16>().ok().ok_or(Wrong::Column("a depth"))
 }

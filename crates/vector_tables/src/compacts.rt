@@ -1,4 +1,4 @@
-//! Compact integers: each read, and where it is accepted, put and written.
+//! Compact integers: each is read and, if it is accepted, put and written.
 
 use crate::columns::bytes_of;
 use crate::way::Way;
@@ -6,7 +6,7 @@ use crate::wrong::{Wrong, check_bytes, check_same, check_text};
 use scale_core::{Target, compact_len, put_compact, read_compact, write_compact};
 use std::alloc::{AllocError, Global};
 
-/// Returns the target of a name.
+/// Returns the target with this name.
 ///
 /// # Errors
 ///
@@ -23,7 +23,7 @@ pub fn target_of(name: &str) -> Result<Target, Wrong> {
     }
 }
 
-/// Returns what the reader answers, as a row has it.
+/// Returns the reader's answer in the format of a row.
 fn answer_line(alloc: Global, bytes: &[u8], target: Target) -> Result<String, AllocError> {
     match read_compact(bytes, target) {
         Ok((value, len)) => format!(in alloc; "{value} in {len}"),
@@ -31,7 +31,7 @@ fn answer_line(alloc: Global, bytes: &[u8], target: Target) -> Result<String, Al
     }
 }
 
-/// The value takes these bytes of an array, whose rest stays.
+/// Checks that the value is put at the start of an array as these bytes, and the rest is unchanged.
 fn check_put(alloc: Global, value: u128, bytes: &[u8]) -> Result<(), Wrong> {
     let mut wanted = [0xee; 17];
     let Some(front) = wanted.get_mut(..bytes.len()) else {
@@ -44,7 +44,7 @@ fn check_put(alloc: Global, value: u128, bytes: &[u8]) -> Result<(), Wrong> {
     check_bytes(alloc, Way::PutCompact, &wanted, &array)
 }
 
-/// The value is written after what stands there, twice.
+/// Checks that the value is appended as these bytes, twice.
 fn check_written(alloc: Global, value: u128, bytes: &[u8]) -> Result<(), Wrong> {
     let mut wanted = Vec::from_slice(alloc, bytes)?;
     wanted.extend_from_slice(bytes)?;
@@ -54,15 +54,15 @@ fn check_written(alloc: Global, value: u128, bytes: &[u8]) -> Result<(), Wrong> 
     check_bytes(alloc, Way::WriteCompact, &wanted, &out)
 }
 
-/// The value has the one spelling that was read.
+/// Checks that the encoding of the value is the bytes that were read.
 fn check_spelling(alloc: Global, value: u128, bytes: &[u8]) -> Result<(), Wrong> {
     check_same(alloc, Way::CompactLen, bytes.len(), compact_len(value))?;
     check_put(alloc, value, bytes)?;
     check_written(alloc, value, bytes)
 }
 
-/// Checks one row: the compact is read so, and an accepted one is put and written as the bytes that
-/// were taken. Returns in how many ways it was asked.
+/// Checks one row: the compact is read as the row says. If it is accepted, it is put and written as
+/// the bytes that were taken. Returns the number of ways in which it was checked.
 ///
 /// # Errors
 ///

@@ -1,5 +1,5 @@
-//! The tables of test vectors that stand below values: compact integers, registries, and what is
-//! known of their types; and what all tables share, their columns and the answers that differ.
+//! The tables of test vectors below values: compact integers, registries, and their types. Also
+//! what all tables share: columns, and answers that differ.
 #![tactic(auto)]
 
 pub mod columns;

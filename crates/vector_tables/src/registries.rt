@@ -1,5 +1,5 @@
-//! Registries and metadata: each read, checked, listed and written back, and each shorter front of
-//! it.
+//! Registries and metadata: each is read, checked, listed and written back, and every shorter front
+//! is rejected.
 
 use crate::columns::{bytes_of, is_nothing};
 use crate::way::Way;
@@ -11,14 +11,14 @@ use scale_calls::push_type_lines;
 use std::alloc::{AllocError, Global};
 use widths_core::{CheckFault, Checked};
 
-/// What stands before a registry.
+/// What precedes a registry.
 #[derive(Clone, Copy, PartialEq, Eq)]
 enum Prefix {
     None,
     Metadata,
 }
 
-/// Returns the prefix of a name.
+/// Returns the prefix with this name.
 fn prefix_of(name: &str) -> Result<Prefix, Wrong> {
     match name {
         "none" => Ok(Prefix::None),
@@ -28,7 +28,7 @@ fn prefix_of(name: &str) -> Result<Prefix, Wrong> {
 }
 
 impl Prefix {
-    /// How many bytes it has.
+    /// Returns the number of bytes of the prefix.
     fn len(self) -> usize {
         match self {
             Prefix::None => 0,
@@ -36,7 +36,7 @@ impl Prefix {
         }
     }
 
-    /// Reads the registry after it, with the count of bytes and the version.
+    /// Reads the registry after the prefix. Returns it, the number of bytes taken, and the version.
     fn read(
         self,
         alloc: Global,
@@ -55,7 +55,7 @@ impl Prefix {
     }
 }
 
-/// Returns what a reader took, as a row has it.
+/// Returns what a reader took, in the format of a row.
 fn taken_line(alloc: Global, len: usize, version: Option<Version>) -> Result<String, AllocError> {
     match version {
         None => format!(in alloc; "{len}"),
@@ -66,13 +66,14 @@ fn taken_line(alloc: Global, len: usize, version: Option<Version>) -> Result<Str
     }
 }
 
-/// The registry is written as the bytes that it was read from.
+/// Checks that the registry is written as the bytes that it was read from.
 fn check_written(alloc: Global, registry: &Registry, bytes: &[u8]) -> Result<(), Wrong> {
     let written = write_registry(alloc, registry)?;
     check_bytes(alloc, Way::WriteRegistry, bytes, &written)
 }
 
-/// Each shorter front is cut at its end. Returns how many there are.
+/// Checks that every shorter front is rejected as truncated at its end. Returns the number of
+/// fronts.
 fn check_fronts(alloc: Global, prefix: Prefix, bytes: &[u8]) -> Result<u64, Wrong> {
     'fronts: for len in 0..bytes.len() {
         let front = bytes.get(..len).ok_or(Wrong::Column("long enough"))?;
@@ -86,7 +87,7 @@ fn check_fronts(alloc: Global, prefix: Prefix, bytes: &[u8]) -> Result<u64, Wron
     Ok(bytes.len() as u64)
 }
 
-/// The lines of the types, joined as a row has them.
+/// Checks the lines of the types, which a row joins with ` / `.
 fn check_lines(alloc: Global, checked: &Checked, wanted: &str) -> Result<(), Wrong> {
     let mut lines = String::new(alloc);
     push_type_lines(alloc, &mut lines, checked)?;
@@ -100,7 +101,7 @@ fn check_lines(alloc: Global, checked: &Checked, wanted: &str) -> Result<(), Wro
     check_text(alloc, Way::TypeLines, &listed, &lines)
 }
 
-/// The registry passes the check, or is handed back as it was.
+/// Checks the result of [`Checked::new`]. It returns a rejected registry unchanged.
 fn check_checked(
     alloc: Global,
     registry: Registry,
@@ -124,7 +125,7 @@ fn check_checked(
     }
 }
 
-/// Checks one row. Returns in how many ways it was asked.
+/// Checks one row. Returns the number of ways in which it was checked.
 ///
 /// # Errors
 ///
@@ -170,7 +171,7 @@ struct Named<'a> {
 pub struct Registries<'a>(Vec<Named<'a>>);
 
 impl<'a> Registries<'a> {
-    /// Reads the names of a table's rows.
+    /// Reads the names and the digits of a table's rows.
     ///
     /// # Errors
     ///
@@ -206,7 +207,7 @@ impl<'a> Registries<'a> {
 ///
 /// # Errors
 ///
-/// If they hold no registry, or a type refers to one that is not there.
+/// If they hold no registry, or a type refers to one that doesn't exist.
 pub fn checked(alloc: Global, bytes: &[u8]) -> Result<Checked, Wrong> {
     let Ok((registry, _)) = read_registry(alloc, bytes) else {
         return Err(Wrong::Call("read_registry"));

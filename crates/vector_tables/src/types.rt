@@ -1,4 +1,5 @@
-//! What a checked registry says of its types: targets of compacts, and arms by their indexes.
+//! The answers of a checked registry about its types: targets of compacts, and arms by their
+//! indexes.
 
 use crate::columns::{is_nothing, number_of};
 use crate::compacts::target_of;
@@ -47,7 +48,7 @@ fn arms_of(alloc: Global, column: &str) -> Result<Vec<NamedArm<'_>>, Wrong> {
     Ok(arms)
 }
 
-/// Reads a target, or a dash for none.
+/// Reads a target. A dash stands for no target.
 fn known_target(word: &str) -> Result<Option<Target>, Wrong> {
     if is_nothing(word) {
         Ok(None)
@@ -56,7 +57,7 @@ fn known_target(word: &str) -> Result<Option<Target>, Wrong> {
     }
 }
 
-/// The types have these targets, and there is none after them.
+/// Checks the targets of the types, and that no target follows them. Returns the number of checks.
 fn check_targets(alloc: Global, checked: &Checked, column: &str) -> Result<u64, Wrong> {
     let mut id = 0u32;
     if !is_nothing(column) {
@@ -80,7 +81,7 @@ fn check_targets(alloc: Global, checked: &Checked, column: &str) -> Result<u64, 
     Ok(u64::from(id).saturating_add(1))
 }
 
-/// Every index of the type leads to the arm that the row names, or to none.
+/// Checks that every index of the type leads to the arm that the row names, or to no arm.
 fn check_arms(
     alloc: Global,
     checked: &Checked,
@@ -101,7 +102,7 @@ fn check_arms(
     Ok(())
 }
 
-/// Checks one row. Returns in how many ways it was asked.
+/// Checks one row. Returns the number of ways in which it was checked.
 ///
 /// # Errors
 ///

@@ -1,6 +1,6 @@
-//! The ways in which a row is asked.
+//! The ways in which a row is checked.
 
-/// What is asked of a row's input, and how it is fed.
+/// The call that is checked on a row's input, and how the input is fed.
 #[derive(Clone, Copy, Debug)]
 pub enum Way {
     ReadCompact,
@@ -17,19 +17,19 @@ pub enum Way {
     CompactTarget(u32),
     /// The arm of this index of the type at this position.
     Arm(u32, u8),
-    /// Making a decoder.
+    /// The creation of a decoder.
     Open,
     /// All bytes in one piece.
     Whole,
-    /// Byte by byte, with an empty piece between.
+    /// Byte by byte, with an empty piece after each byte.
     Singly,
     /// Two pieces, the first of this length.
     TwoPieces(usize),
     /// Three pieces, which end at these places.
     ThreePieces(usize, usize),
-    /// A byte more than the value has.
+    /// One byte more than the value has.
     FurtherByte,
-    /// A reader of at most so many bytes a call.
+    /// A reader of at most this many bytes a call.
     Reader(usize),
     DecodePieces,
     Encode,
@@ -37,7 +37,7 @@ pub enum Way {
     Text,
     Slice,
     Print,
-    /// The command over devices of at most so many bytes a call.
+    /// The command over devices of at most this many bytes a call.
     Command(usize),
     /// A call of a builder, by its number in the row.
     Call(usize),

@@ -1,18 +1,18 @@
-//! Why a row is not answered as it should be.
+//! Why the answer to a row is wrong.
 
 use crate::way::Way;
 use std::alloc::{AllocError, Global};
 use std::fmt;
 use std::fmt::{Debug, Display};
 
-/// Why a row is not answered as it should be.
+/// Why the answer to a row is wrong.
 #[derive(Debug, Drop)]
 pub enum Wrong {
     /// An allocation failed.
     Memory,
-    /// A column that cannot be read, by what it should hold.
+    /// A column that cannot be read, with what it should hold.
     Column(&'static str),
-    /// A call that is refused and should not be.
+    /// A call that fails and should not.
     Call(&'static str),
     /// An answer that differs from the row's.
     Answer {
@@ -65,7 +65,7 @@ pub fn check_text(alloc: Global, way: Way, wanted: &str, found: &str) -> Result<
     }
 }
 
-/// Compares two answers, and prints them where they differ.
+/// Compares two answers, and formats them if they differ.
 ///
 /// # Errors
 ///

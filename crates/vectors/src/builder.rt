@@ -134,7 +134,7 @@ fn check_steps<'r>(
     Ok((builder, count))
 }
 
-/// Returns bytes as a column spells them.
+/// Returns bytes in the format of a column.
 fn column_of(alloc: Global, bytes: &[u8]) -> Result<String, AllocError> {
     match bytes {
         [] => String::from_str(alloc, "-"),
@@ -196,7 +196,7 @@ fn check_end(
     }
 }
 
-/// Checks one row. Returns the number of its steps, and one for the end of the builder.
+/// Checks one row. Returns the number of its steps, plus one for the end of the builder.
 pub(crate) fn check_row(
     alloc: Global,
     registries: &Registries<'_>,

@@ -1,4 +1,4 @@
-//! The calls that are asked, but for those that tests share.
+//! The calls that rows check, except for those that tests share.
 
 use decode_core::Decoder;
 use json_core::print;
@@ -9,7 +9,7 @@ use value_core::{Limits, Value, encode};
 use vector_tables::wrong::Wrong;
 use widths_core::Checked;
 
-/// Returns a decoder of a value of the type.
+/// Creates a decoder of a value of the type.
 pub(crate) fn open<'r>(
     alloc: Global,
     checked: &'r Checked,

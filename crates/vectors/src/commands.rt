@@ -1,4 +1,4 @@
-//! The command: each line of words, run over memory.
+//! The command: each command line, run over memory.
 
 use crate::values::Row;
 use command_runs::ran::{Devices, NONE, Ran};
@@ -10,13 +10,13 @@ use vector_tables::columns::{bytes_of, is_nothing, number_of};
 use vector_tables::way::Way;
 use vector_tables::wrong::{Wrong, check_bytes, check_same, check_text};
 
-/// How many bytes a device moves in a call at most: one, and all that a row has.
+/// The most bytes that a device moves in a call: one, and all that a row has.
 const STEPS: [usize; 2] = [1, 1 << 20];
 
-/// The most bytes of a value of the command.
+/// The command's limit on the bytes of a value.
 const MOST_BYTES: u64 = 16_777_216;
 
-/// Returns what the command is to answer to a value's row.
+/// Returns the result that the command should have for a value's row.
 fn wanted_of(alloc: Global, row: &Row<'_>) -> Result<Ran, AllocError> {
     let refusal = row.whole_refusal(alloc)?;
     if refusal.is_empty() {
@@ -33,15 +33,15 @@ fn wanted_of(alloc: Global, row: &Row<'_>) -> Result<Ran, AllocError> {
     })
 }
 
-/// The run answered this.
+/// Checks the result of a run.
 fn check_ran(alloc: Global, way: Way, wanted: &Ran, found: &Ran) -> Result<(), Wrong> {
     check_same(alloc, way, wanted.status, found.status)?;
     check_bytes(alloc, way, &wanted.out, &found.out)?;
     check_bytes(alloc, way, &wanted.err, &found.err)
 }
 
-/// Runs a value's row by the command, where it has the command's limit of bytes. Returns in how
-/// many ways.
+/// Runs the command on a value's row, if the row has the command's limit of bytes. Returns the
+/// number of ways in which it ran.
 pub(crate) fn check_command(alloc: Global, registry: &[u8], row: &Row<'_>) -> Result<u64, Wrong> {
     if row.limits.bytes != MOST_BYTES {
         return Ok(0);
@@ -70,8 +70,8 @@ struct FilesOfRow {
 }
 
 impl FilesOfRow {
-    /// Opens a file by its name: `r` holds the registry and `v` the value, `.` opens and cannot be
-    /// read, and no other opens.
+    /// Opens a file by its name. `r` holds the registry, `v` holds the value, and `.` opens but
+    /// cannot be read. No other file opens.
     fn open(&self, name: &str, step: usize) -> Option<PacedReader<'_>> {
         match name {
             "r" => Some(PacedReader::new(&self.registry, step, Then::GoesOn)),
@@ -82,7 +82,7 @@ impl FilesOfRow {
     }
 }
 
-/// Returns what the program answers where a file does not open.
+/// Returns the program's answer if a file does not open.
 fn unopened_ran(alloc: Global, device: Device) -> (Ran, bool) {
     let mut err = Sink::new(Vec::new(alloc));
     let status = unopened(device, &mut err);
@@ -94,7 +94,7 @@ fn unopened_ran(alloc: Global, device: Device) -> (Ran, bool) {
     (ran, true)
 }
 
-/// Returns what the program answers where the words name no job.
+/// Returns the program's answer if the words name no job.
 fn explained_ran(alloc: Global, fault: JobFault) -> (Ran, bool) {
     let mut out = Sink::new(Vec::new(alloc));
     let mut err = Sink::new(Vec::new(alloc));
@@ -107,8 +107,8 @@ fn explained_ran(alloc: Global, fault: JobFault) -> (Ran, bool) {
     (ran, false)
 }
 
-/// Runs the words as the program does, over devices of at most so many bytes a call. Returns
-/// whether a device failed, too.
+/// Runs the words as the program does, over devices of at most `step` bytes a call. Returns the
+/// result, and whether a device failed.
 fn ran_words(alloc: Global, files: &FilesOfRow, words: &[&str], step: usize) -> (Ran, bool) {
     let (job, file, value_file) = match job(alloc, words) {
         Ok(job) => job,
@@ -129,7 +129,7 @@ fn ran_words(alloc: Global, files: &FilesOfRow, words: &[&str], step: usize) -> 
     (ran, failed != NONE)
 }
 
-/// Returns the bytes of a column in which a line end stands as `\n` and a backslash as `\\`.
+/// Returns the text of a column, in which `\n` stands for a line end and `\\` for a backslash.
 fn unescaped(alloc: Global, column: &str) -> Result<String, AllocError> {
     let mut text = String::new(alloc);
     if is_nothing(column) {
@@ -152,8 +152,8 @@ fn unescaped(alloc: Global, column: &str) -> Result<String, AllocError> {
     Ok(text)
 }
 
-/// The run answered as the row says. Where the parser of the words refuses them, its text is left
-/// open.
+/// Checks that the run answered as the row says. If the words' parser rejects them, standard error
+/// only has to hold some text.
 fn check_columns(
     alloc: Global,
     way: Way,
@@ -169,7 +169,7 @@ fn check_columns(
     check_bytes(alloc, way, unescaped(alloc, err)?.as_bytes(), &ran.err)
 }
 
-/// Returns the words of a line, after the program's name.
+/// Returns the program's name and the words of a line after it.
 fn words_of<'a>(alloc: Global, line: &'a str) -> Result<Vec<&'a str>, AllocError> {
     let mut words = Vec::new(alloc);
     words.push("scaleview")?;
@@ -181,7 +181,7 @@ fn words_of<'a>(alloc: Global, line: &'a str) -> Result<Vec<&'a str>, AllocError
     Ok(words)
 }
 
-/// Checks one row. Returns in how many ways it was asked.
+/// Checks one row. Returns the number of ways in which it was checked.
 pub(crate) fn check_row(alloc: Global, columns: &[&str]) -> Result<u64, Wrong> {
     let [_, line, registry, value, status, out, err] = columns else {
         return Err(Wrong::Column("one of seven"));

@@ -1,6 +1,6 @@
-//! The program `vectors`: reads tables of test vectors, asks every call for the answers of each
-//! row, in every way of feeding it, and prints the rows that are answered otherwise and a line for
-//! each table. The status is 0 where none is.
+//! The program `vectors` reads tables of test vectors. It checks every call against the answers of
+//! each row, in every way of feeding it. It prints the rows that are answered wrongly, and a line
+//! for each table. The exit status is 0 if no row is answered wrongly.
 #![tactic(auto)]
 
 mod builder;

@@ -11,7 +11,7 @@ use vector_tables::way::Way;
 use vector_tables::wrong::{Wrong, check_bytes, check_same, check_text};
 use widths_core::Checked;
 
-/// The value is the row's, by its counts, its bytes and its text.
+/// Checks that the value has the counts, the bytes and the text of the row.
 pub(crate) fn check_value(
     alloc: Global,
     way: Way,
@@ -25,8 +25,8 @@ pub(crate) fn check_value(
     check_text(alloc, way, row.json, &shown(alloc, value)?)
 }
 
-/// The text is put to the front of a slice with room for it and two bytes more, and nothing is put
-/// where it has no room.
+/// Checks that the text is written at the start of a slice that is two bytes longer. Nothing is
+/// written to a slice that is too short.
 fn check_slice(alloc: Global, row: &Row<'_>, value: &Value<'_, Global>) -> Result<(), Wrong> {
     let len = row.json.len();
     let mut wanted = Vec::from_slice(alloc, row.json.as_bytes())?;
@@ -50,8 +50,8 @@ fn check_slice(alloc: Global, row: &Row<'_>, value: &Value<'_, Global>) -> Resul
     check_bytes(alloc, Way::Slice, &untouched, &short)
 }
 
-/// The row's value as a tree, as text in a slice, and printed. Returns in how many ways it is
-/// shown.
+/// Checks the row's value as a tree, as printed text, and as text in a slice. Returns the number of
+/// ways in which it is shown.
 pub(crate) fn check_forms(alloc: Global, checked: &Checked, row: &Row<'_>) -> Result<u64, Wrong> {
     let Some(spelling) = row.value() else {
         return Ok(0);

@@ -11,12 +11,12 @@ pub(crate) const ACCEPTED: &str = "accepted";
 /// A step of a row.
 #[derive(Clone, Copy)]
 pub(crate) struct Step<'a> {
-    /// The name of the call; empty where the step only looks at what comes next.
+    /// The name of the call, or empty if the step only looks at what comes next.
     pub(crate) name: &'a str,
     pub(crate) argument: &'a str,
     /// The error as `Debug` prints it, or [`ACCEPTED`].
     pub(crate) answer: &'a str,
-    /// What comes next as `Debug` prints it, and its depth, where the row has them.
+    /// What comes next as `Debug` prints it, and its depth, if the row has them.
     pub(crate) next: Option<&'a str>,
 }
 
@@ -45,7 +45,7 @@ pub(crate) fn step_of(text: &str) -> Step<'_> {
 }
 
 impl Step<'_> {
-    /// Returns the bytes of the argument, where the call takes bytes.
+    /// Returns the bytes of the argument, or no bytes if the call takes none.
     pub(crate) fn bytes(&self, alloc: Global) -> Result<Vec<u8>, Wrong> {
         match self.name {
             "text" | "text_piece" | "bytes" | "bytes_piece" | "wide" => {

@@ -1,4 +1,4 @@
-//! The tables, and how many of their rows are answered as they should be.
+//! The tables, and how many of their rows are answered correctly.
 
 use crate::{builder, commands, values};
 use std::alloc::Global;
@@ -41,7 +41,7 @@ impl Table {
         }
     }
 
-    /// Checks one row. Returns in how many ways it was asked.
+    /// Checks one row. Returns the number of ways in which it was checked.
     fn check_row(
         self,
         alloc: Global,
@@ -59,7 +59,7 @@ impl Table {
     }
 }
 
-/// How many rows were checked, in how many ways, and how many of them are answered wrongly.
+/// The number of rows checked, of ways in which they were checked, and of rows answered wrongly.
 #[derive(Clone, Copy, Default)]
 pub(crate) struct Tally {
     pub(crate) rows: u64,
@@ -90,7 +90,7 @@ fn check_line<R: Print + AllocGlobal>(
     }
 }
 
-/// Checks the rows of a table. Empty lines and lines that begin with a number sign are none.
+/// Checks the rows of a table. Skips empty lines and lines that begin with a number sign.
 pub(crate) fn check_table<R: Print + AllocGlobal>(
     rt: &R,
     table: Table,

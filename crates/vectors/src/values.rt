@@ -1,5 +1,5 @@
-//! Values: each fed to a decoder whole and in pieces, read from readers, and shown by every call
-//! that shows one.
+//! Values: each is fed to a decoder at once and in pieces, read from readers, and shown by every
+//! call that shows values.
 
 use crate::calls::open;
 use crate::commands::check_command;
@@ -19,7 +19,7 @@ use widths_core::Checked;
 /// The most bytes of a row that is fed in three pieces.
 const LONGEST_IN_THREE: usize = 12;
 
-/// A value's bytes, and what a decoder is to answer once it has them all.
+/// A value's bytes, and what a decoder should answer once it has them all.
 #[derive(Drop)]
 pub(crate) struct Row<'a> {
     pub(crate) ty: u32,
@@ -31,7 +31,7 @@ pub(crate) struct Row<'a> {
 }
 
 impl Row<'_> {
-    /// The value's bytes, where there is one.
+    /// Returns the value's bytes, or `None` if the row has no value.
     pub(crate) fn value(&self) -> Option<&[u8]> {
         match self.answer {
             "Done" => self.bytes.get(..self.held.taken as usize),
@@ -39,7 +39,8 @@ impl Row<'_> {
         }
     }
 
-    /// The refusal of the row's bytes where no more come; empty where a value is on their front.
+    /// Returns the error of the row's bytes if no more follow, or an empty text if they begin with
+    /// a value.
     fn refusal(&self, alloc: Global) -> Result<String, AllocError> {
         match self.answer {
             "Done" => Ok(String::new(alloc)),
@@ -48,7 +49,8 @@ impl Row<'_> {
         }
     }
 
-    /// The refusal of the row's bytes where they are to be one value, all of them.
+    /// Returns the error of the row's bytes if all of them must be one value, or an empty text if
+    /// they are one.
     pub(crate) fn whole_refusal(&self, alloc: Global) -> Result<String, AllocError> {
         match self.value() {
             Some(value) if value.len() < self.bytes.len() => {
@@ -94,7 +96,7 @@ fn row_of<'a>(alloc: Global, columns: &[&'a str]) -> Result<Row<'a>, Wrong> {
     })
 }
 
-/// What the pieces so far are answered, with the bytes that were used of them in all.
+/// The answer to the pieces so far, with the total number of bytes used.
 #[derive(Clone, Copy, Debug, PartialEq, Eq)]
 enum Fed {
     More(u64),
@@ -102,7 +104,7 @@ enum Fed {
     Refused(DecodeFault),
 }
 
-/// Feeds the next piece.
+/// Feeds the next piece, and returns the answer to the pieces so far.
 fn feed_next(decoder: &mut Decoder<'_, Global>, fed: Fed, piece: &[u8]) -> Fed {
     let before = match fed {
         Fed::More(used) | Fed::Done(used) => used,
@@ -115,7 +117,8 @@ fn feed_next(decoder: &mut Decoder<'_, Global>, fed: Fed, piece: &[u8]) -> Fed {
     }
 }
 
-/// Returns what the pieces are answered, as a row has it, and how many bytes were used of them.
+/// Returns the answer in the format of a row, and the number of bytes used unless they are
+/// rejected.
 fn fed_line(alloc: Global, fed: Fed) -> Result<(String, Option<u64>), AllocError> {
     match fed {
         Fed::More(used) => Ok((String::from_str(alloc, "More")?, Some(used))),
@@ -124,7 +127,7 @@ fn fed_line(alloc: Global, fed: Fed) -> Result<(String, Option<u64>), AllocError
     }
 }
 
-/// The decoder was fed the row's bytes: it answered so, and holds what the row says.
+/// Checks the answer of a decoder that was fed the row's bytes, and what it holds.
 fn check_fed(
     alloc: Global,
     way: Way,
@@ -140,7 +143,7 @@ fn check_fed(
     check_same(alloc, way, row.held, held(decoder))
 }
 
-/// The decoder of the row's bytes ends as the row says.
+/// Checks that the decoder of the row's bytes finishes as the row says.
 fn check_finished(
     alloc: Global,
     way: Way,
@@ -160,7 +163,8 @@ fn check_finished(
     }
 }
 
-/// A piece that changes nothing after the row's bytes: none where the value goes on, else any.
+/// Returns a piece that changes nothing after the row's bytes: an empty one if the value is
+/// incomplete, and any other otherwise.
 fn idle_piece(row: &Row<'_>) -> &'static [u8] {
     match row.answer {
         "More" => b"",
@@ -168,7 +172,7 @@ fn idle_piece(row: &Row<'_>) -> &'static [u8] {
     }
 }
 
-/// Feeds the pieces, and ends the decoder after one more piece that changes nothing.
+/// Feeds the pieces and one more that changes nothing, and finishes the decoder.
 fn check_pieces(
     alloc: Global,
     checked: &Checked,
@@ -187,7 +191,7 @@ fn check_pieces(
     check_finished(alloc, way, row, finish(decoder))
 }
 
-/// Feeds the bytes one by one, each between two pieces of no bytes: the one after it changes
+/// Feeds the bytes one by one, each between two empty pieces. Checks that the second one changes
 /// nothing.
 fn check_singly(alloc: Global, checked: &Checked, row: &Row<'_>) -> Result<(), Wrong> {
     let mut decoder = open(alloc, checked, row.ty, row.limits)?;
@@ -201,7 +205,7 @@ fn check_singly(alloc: Global, checked: &Checked, row: &Row<'_>) -> Result<(), W
     check_finished(alloc, Way::Singly, row, finish(decoder))
 }
 
-/// Feeds the bytes in two pieces at every place. Returns how many places there are.
+/// Feeds the bytes in two pieces, split at every place. Returns the number of places.
 fn check_two_pieces(alloc: Global, checked: &Checked, row: &Row<'_>) -> Result<u64, Wrong> {
     'cuts: for cut in 0..=row.bytes.len() {
         let (front, rest) = row.bytes.split_at(cut);
@@ -210,7 +214,8 @@ fn check_two_pieces(alloc: Global, checked: &Checked, row: &Row<'_>) -> Result<u
     Ok((row.bytes.len() as u64).saturating_add(1))
 }
 
-/// Feeds the bytes of a short row in three pieces at every two places. Returns how many there are.
+/// Feeds the bytes of a short row in three pieces, split at every two places. Returns the number of
+/// splits.
 fn check_three_pieces(alloc: Global, checked: &Checked, row: &Row<'_>) -> Result<u64, Wrong> {
     let mut count = 0u64;
     if row.bytes.len() > LONGEST_IN_THREE {
@@ -228,8 +233,8 @@ fn check_three_pieces(alloc: Global, checked: &Checked, row: &Row<'_>) -> Result
     Ok(count)
 }
 
-/// Every front that is shorter than what is taken goes on, and is refused as truncated where no
-/// more bytes come. Returns how many there are.
+/// Checks that every front shorter than the bytes taken is incomplete, and is rejected as truncated
+/// if no more bytes follow. Returns the number of fronts.
 fn check_fronts(alloc: Global, checked: &Checked, row: &Row<'_>) -> Result<u64, Wrong> {
     let taken = row.held.taken as usize;
     'fronts: for len in 0..taken {
@@ -246,7 +251,7 @@ fn check_fronts(alloc: Global, checked: &Checked, row: &Row<'_>) -> Result<u64, 
     Ok(row.held.taken)
 }
 
-/// All bytes of the row are one value, or are refused as the row says.
+/// Checks that all bytes of the row are one value, or are rejected as the row says.
 fn check_all(
     alloc: Global,
     way: Way,
@@ -263,7 +268,7 @@ fn check_all(
     }
 }
 
-/// Reads the row's bytes from a reader of so many bytes a call, which doesn't fail.
+/// Reads the row's bytes from a reader of `step` bytes a call, which doesn't fail.
 fn check_reader(alloc: Global, checked: &Checked, row: &Row<'_>, step: usize) -> Result<(), Wrong> {
     let way = Way::Reader(step);
     let mut source = Source::new(PacedReader::new(&row.bytes, step, Then::GoesOn));
@@ -275,7 +280,7 @@ fn check_reader(alloc: Global, checked: &Checked, row: &Row<'_>, step: usize) ->
     check_all(alloc, way, row, end)
 }
 
-/// Reads the value on the front of the row's bytes where they are all there.
+/// Decodes the value that the row's bytes begin with, from pieces that hold all of them.
 fn check_front_of(alloc: Global, checked: &Checked, row: &Row<'_>) -> Result<(), Wrong> {
     let way = Way::DecodePieces;
     match front_of(alloc, checked, row.ty, row.limits, &[b"", &row.bytes]) {
@@ -291,8 +296,8 @@ fn check_front_of(alloc: Global, checked: &Checked, row: &Row<'_>) -> Result<(),
     }
 }
 
-/// One byte after the value's is left by a decoder, and refused where the bytes are to be the value
-/// alone.
+/// Checks that a decoder leaves a byte after the value, which is rejected if all bytes must be the
+/// value.
 fn check_further_byte(alloc: Global, checked: &Checked, row: &Row<'_>) -> Result<u64, Wrong> {
     let way = Way::FurtherByte;
     let Some(value) = row.value() else {
@@ -315,7 +320,7 @@ fn check_further_byte(alloc: Global, checked: &Checked, row: &Row<'_>) -> Result
     Ok(2)
 }
 
-/// The decoder of the row is not made.
+/// Checks that the decoder of the row is not created.
 fn check_unopened(alloc: Global, checked: &Checked, row: &Row<'_>) -> Result<u64, Wrong> {
     let fault = opening_fault(alloc, checked, row.ty, row.limits);
     let line = match fault {
@@ -329,7 +334,7 @@ fn check_unopened(alloc: Global, checked: &Checked, row: &Row<'_>) -> Result<u64
     Ok(2)
 }
 
-/// Checks one row. Returns in how many ways it was asked.
+/// Checks one row. Returns the number of ways in which it was checked.
 pub(crate) fn check_row(
     alloc: Global,
     registries: &Registries<'_>,
