@@ -1,4 +1,4 @@
--- What is written of a value: the tokens of its JSON.
+-- The tokens of a value's JSON.
 use Rattle.std.specs.Prelude.{ℕ, List, [], ◌∷◌, option_and_then, unwrap_or, slice_get, Result}
 use Rattle.json.specs.Tree.{json_tokens}
 use Rattle.serde_json.specs.Data.{Data, null, Members, no_members, member}
@@ -6,7 +6,7 @@ use Rattle.serde_json.specs.Written.{outline}
 use Rattle.registry_core.specs.declared.definition.Field.{Field}
 use Rattle.token_core.specs.Tokens.{Text, AddsTokens}
 
--- those of a value are
+-- the tokens of a value's JSON are added
 abbrev pub AddsValue : {E : Type 0} → Result (Unit {0}) E → Text → Text → Data → Type 0
 AddsValue r old new d = AddsTokens r old new (json_tokens (outline d))
 

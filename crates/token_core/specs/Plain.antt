@@ -1,11 +1,11 @@
--- Texts that stand in JSON as they are.
+-- Texts that need no escape in JSON.
 use Rattle.std.specs.Prelude.{◌≡◌, ◌≢◌, ℕ, List, Bool, true, false}
 use Rattle.json.specs.Print.{escape}
 use Rattle.json.specs.Written.{PlainBetween}
 use Rattle.token_core.specs.declared.plain.Escapes.{Escapes}
 use Rattle.token_core.specs.declared.plain.Escapes.TheVariants as escapes
 
--- this holds, if it is known that no escape is needed
+-- P holds, if it is known that no escape is needed
 abbrev pub OnPlain : Escapes → Type 0 → Type 0
 OnPlain escapes.None P = P
 OnPlain escapes.Unknown P = Unit {0}

@@ -28,13 +28,13 @@ put w role s = record {
   after_value = ends_value role;
 }
 
--- these tokens after it
+-- the text with these tokens printed after it
 abbrev pub prints : Text → List Token → Text
 prints w ts = record {
   text = w.text ++ print_from w.after_value ts;
   after_value = fold (λ _ t. ends t) w.after_value ts;
 }
 
--- the tokens are printed after what stood there
+-- if the call succeeds, the tokens were printed after the old text
 abbrev pub AddsTokens : {E : Type 0} → Result (Unit {0}) E → Text → Text → List Token → Type 0
 AddsTokens r old new ts = OnOk r (new ≡ prints old ts)
