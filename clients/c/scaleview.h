@@ -175,7 +175,7 @@ typedef struct scaleview_answer {
     uint32_t code;
     uint32_t from;   /* the position of the type that has the unknown reference; the version of an open registry's metadata;
                       * the type of a part; or the index of an arm */
-    uint64_t at;     /* the place of a refusal, or where an open registry ends, in bytes from the start of the input; 1 if a
+    uint64_t at;     /* the place of an error, or where an open registry ends, in bytes from the start of the input; 1 if a
                       * part has a name; the number of an arm's fields; the position of a type or of a node; or the number of
                       * bytes of a pool */
     uint64_t length; /* the number of bytes of a text, of types, of nodes, or of bytes of a piece that belong to the value */
@@ -328,7 +328,7 @@ uint32_t scaleview_start(scaleview_registry registry, uint32_t type, uint16_t de
 uint32_t scaleview_feed(scaleview_session *session, const uint8_t *piece, size_t length, scaleview_answer *answer);
 
 /* Report the number of bytes taken of all pieces, of nodes held, and of bytes of texts and byte runs held, in
- * `answer->length`. After a refusal no nodes and no bytes are held. After scaleview_finish the number of bytes taken is 0, and
+ * `answer->length`. After an error no nodes and no bytes are held. After scaleview_finish the number of bytes taken is 0, and
  * the others are those of the value, which is kept. Otherwise they return SCALEVIEW_NO_HANDLE. */
 uint32_t scaleview_taken(scaleview_session *session, scaleview_answer *answer);
 uint32_t scaleview_nodes(scaleview_session *session, scaleview_answer *answer);
@@ -339,8 +339,8 @@ uint32_t scaleview_text_bytes(scaleview_session *session, scaleview_answer *answ
  * the text, the call returns SCALEVIEW_MEMORY, and a later call may succeed.
  *
  * If the value is incomplete, the call returns SCALEVIEW_VALUE_TRUNCATED at the number of bytes taken; if it was rejected,
- * that refusal, also SCALEVIEW_MEMORY; every later call returns the same. No piece is taken afterwards: scaleview_feed then
- * returns SCALEVIEW_OK for a complete value, and that refusal for others. Otherwise it returns SCALEVIEW_NO_HANDLE. */
+ * that code, also SCALEVIEW_MEMORY; every later call returns the same. No piece is taken afterwards: scaleview_feed then
+ * returns SCALEVIEW_OK for a complete value, and that code for others. Otherwise it returns SCALEVIEW_NO_HANDLE. */
 uint32_t scaleview_finish(scaleview_session *session, uint8_t *out, size_t room, scaleview_answer *answer);
 
 /* Ends the value as scaleview_finish does, and writes its nodes as scaleview_decode_nodes does. It needs no memory. */

@@ -13,7 +13,7 @@ class Refused(ValueError):
         code: The library's number.
         reason: The library's name of it, such as "Truncated".
         part: What is rejected: "registry", "check" for a reference between its types, "type", "limits" or "value".
-        place: The place in bytes from the start, or None where there is none.
+        place: The place in bytes from the start, or None if it has none.
         from_type: The position of the type that refers to one that doesn't exist, or None.
         to_type: The position of a type that doesn't exist, or None.
         item: The position of the rejected item of `decode_many`, or None.

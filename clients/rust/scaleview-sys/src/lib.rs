@@ -257,7 +257,7 @@ pub struct scaleview_answer {
     /// The position of the type that has the unknown reference; the version of an open registry's
     /// metadata; the type of a part; or the index of an arm.
     pub from: u32,
-    /// The place of a refusal, or where an open registry ends, in bytes from the start of the
+    /// The place of an error, or where an open registry ends, in bytes from the start of the
     /// input; 1 if a part has a name; the number of an arm's fields; the position of a type or of a
     /// node; or the number of bytes of a pool.
     pub at: u64,
