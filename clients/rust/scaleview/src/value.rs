@@ -9,8 +9,8 @@ use std::{fmt, slice, str};
 
 /// A decoded value. It keeps its nodes and their bytes in one list each, and borrows its registry.
 ///
-/// [`root`](Value::root) is the view of the complete value; what a view offers is offered here too. It
-/// displays as the JSON that [`Registry::decode_json`] returns, and so does every part.
+/// [`root`](Value::root) is the view of the complete value; what a view offers is offered here too.
+/// It displays as the JSON that [`Registry::decode_json`] returns, and so does every part.
 ///
 /// ```
 /// # use scaleview::{Error, Kind, Registry};
