@@ -5,7 +5,7 @@ use Rattle.serde_json.specs.View.{items_view}
 use Rattle.serde_json.specs.declared.value.Value.{Value}
 use Rattle.registry_core.specs.declared.definition.Field.{Field}
 use Rattle.json_core.specs.Json.{with_members}
-use Rattle.json_core.specs.Ordered.{names_of}
+use Rattle.json_core.specs.Tokens.{names_of}
 
 -- the members stay
 pub no_fields : (fs : List Field) (ds : Items) (ms : Members) → length fs ≡ 0 →

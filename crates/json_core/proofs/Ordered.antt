@@ -2,33 +2,29 @@
 use Rattle.std.proofs.Common.{◌≡◌, ℕ, zero, suc, ◌+◌, ◌≤◌, Bool, true, false, cond, not, List, []}
 use Rattle.std.proofs.Common.{◌∷◌, length, map, drop, Option, Some, None, is_some, option_map}
 use Rattle.std.proofs.Common.{Ordering, Less, Equal, Greater, nat_cmp, is_eq, bytes_eq, refl, sym}
-use Rattle.std.proofs.Common.{ap, ap₂, ◌∙◌, subst, arith, add-one, true≢false}
-use Rattle.std.specs.Prelude.{◌&&◌, ◌||◌, option_and_then, unwrap_or, IsSome, slice_get}
+use Rattle.std.proofs.Common.{ap, ap₂, ◌∙◌, subst, arith, add-one, true≢false, inl, inr, Vec}
+use Rattle.std.proofs.Common.{Global}
+use Rattle.std.specs.Prelude.{◌&&◌, ◌||◌, ◌⊎◌, option_and_then, unwrap_or, IsSome, slice_get}
 use Rattle.std.specs.List.{AllByRecursion, range_with_len}
 use Rattle.std.proofs.lemmas.Map.Text.{is_eq-slice_cmp}
 use Rattle.std.proofs.lemmas.Slice.Eq.{bytes_eq-Decides}
-use Rattle.std.proofs.lemmas.List.{length-map}
 use Rattle.std.specs.Cmp.Lexicographic.{slice_cmp}
 use Rattle.std.specs.Ordering.{match_ordering}
-use Rattle.std.specs.Map.{lookup}
-use Rattle.std.specs.BTreeMap.{insert_entry, is_at}
 use Rattle.serde_json.specs.Data.{Data, null, Items, Members, no_members, member, put, object}
 use Rattle.serde_json.specs.Data.{array}
 use Rattle.serde_json.specs.View.{items_of}
 use Rattle.registry_core.specs.declared.definition.Field.{Field}
+use Rattle.registry_core.specs.declared.keys.Keys.{Keys}
+use Rattle.registry_core.specs.declared.keys.Keys.TheVariants as keys
 use Rattle.json_core.specs.Json.{with_name, names, is_new, all_differ, with_members, named_json}
 use Rattle.json_core.specs.Json.{fields_json}
-use Rattle.json_core.specs.Ordered.{is_there, order_from, key_order, AreNamed, names_of}
-use Rattle.json_core.specs.Tokens.{data_at, name_at, members_at, members_in_order}
-
-abbrev pub Entries : Type 0
-Entries = List (List ℕ × ℕ)
+use Rattle.registry_core.specs.Keys.{is_there, order_from, key_order, AreKeys}
+use Rattle.registry_core.proofs.KeyOrders.{Entries, insert, is_there_cons}
+use Rattle.json_core.specs.Tokens.{data_at, name_at, members_at, members_in_order, AreNamed}
+use Rattle.json_core.specs.Tokens.{names_of}
 
 abbrev cmp : List ℕ → List ℕ → Ordering
 cmp = slice_cmp nat_cmp
-
-abbrev pub insert : List ℕ → ℕ → Entries → Entries
-insert n i es = insert_entry cmp es n i
 
 -- these names put at their positions, from i on
 abbrev placed_from : List (List ℕ) → ℕ → Entries → Entries
@@ -41,14 +37,6 @@ members_by f [] = no_members
 members_by f (e ∷ es) = member e.0 (f e.1) (members_by f es)
 
 -- ---- which names are there
-
--- a name is among entries where the first has it or the others do
-pub is_there_cons : (m : List ℕ) (e : List ℕ × ℕ) (es : Entries) →
-    is_there m (e ∷ es) ≡ (is_eq (cmp m e.0) || is_there m es)
-is_there_cons m e es = go (is_eq (cmp m e.0)) where
-  go : (b : Bool) → is_some (cond b (Some e.1) (lookup (is_at (cmp m)) es)) ≡ (b || is_there m es)
-  go true = refl
-  go false = refl
 
 -- of three that are joined by or, the first two change places
 or_assoc_swap : (a b c : Bool) → (a || (b || c)) ≡ (b || (a || c))
@@ -251,52 +239,24 @@ named_insert fs n i (e ∷ es) h all = go (cmp n e.0) refl (named_insert fs n i 
   go Equal is later = (subst (λ m. IsNamed fs (m, i)) (same_name n e.0 is) h, all.1)
   go Greater is later = (all.0, later)
 
--- a name that is new makes the entries one more
-count_insert : (n : List ℕ) (i : ℕ) (es : Entries) → is_there n es ≡ false →
-    length (insert n i es) ≡ suc (length es)
-count_insert n i [] e = refl
-count_insert n i (x ∷ es) e = go (cmp n x.0) refl (count_insert n i es) where
-  go : (o : Ordering) → cmp n x.0 ≡ o →
-      (is_there n es ≡ false → length (insert n i es) ≡ suc (length es)) →
-      length (match_ordering o ((n, i) ∷ x ∷ es) ((x.0, i) ∷ es) (x ∷ insert n i es))
-      ≡ suc (suc (length es))
-  go Less is later = refl
-  go Equal is later = absurd (true≢false (sym (ap (λ p. is_eq p || is_there n es) is)
-      ∙ sym (is_there_cons n x es) ∙ e))
-  go Greater is later = ap suc (later (sym (ap (λ p. is_eq p || is_there n es) is)
-      ∙ sym (is_there_cons n x es) ∙ e))
-
--- each entry is that of a field, and each field has one
-record Found (all fs : List Field) (es found : Entries) : Type 0 where
-  pub named : AllNamed all found
-  pub count : length found ≡ length fs + length es
-
--- an order that is found from a position on has an entry for each field from there
+-- each entry of an order that is found from a position on is that of a field
 found_from : (all fs : List Field) (i : ℕ) (es found : Entries) → drop i all ≡ fs →
-    AllNamed all es → order_from fs i es ≡ Some found → Found all fs es found
-found_from all [] i es found at named e = let same : es ≡ found = cc in record {
-  named = subst (AllNamed all) same named;
-  count = ap length (sym same) ∙ omega arith;
-}
+    AllNamed all es → order_from fs i es ≡ Some found → AllNamed all found
+found_from all [] i es found at named e = let same : es ≡ found = cc in
+    subst (AllNamed all) same named
 found_from all (f ∷ fs) i es found at named e = go (found_from all fs (suc i)) f.name refl e where
   go : ((es found : Entries) → drop (suc i) all ≡ fs → AllNamed all es →
-      order_from fs (suc i) es ≡ Some found → Found all fs es found) → (o : Option (List ℕ)) →
+      order_from fs (suc i) es ≡ Some found → AllNamed all found) → (o : Option (List ℕ)) →
       f.name ≡ o → option_and_then (λ n. cond (is_there n es) None
-      (order_from fs (suc i) (insert n i es))) o ≡ Some found → Found all (f ∷ fs) es found
+      (order_from fs (suc i) (insert n i es))) o ≡ Some found → AllNamed all found
   go rest None is h = absurd cc
   go rest (Some n) is h = new (is_there n es) refl h where
     new : (b : Bool) → is_there n es ≡ b →
-        cond b None (order_from fs (suc i) (insert n i es)) ≡ Some found →
-        Found all (f ∷ fs) es found
+        cond b None (order_from fs (suc i) (insert n i es)) ≡ Some found → AllNamed all found
     new true there g = absurd cc
     new false there g =
         let here = head_at all i f fs at in
-        let later = rest (insert n i es) found here.1
-        (named_insert all n i es (f, here.0, is) named) g in
-        record {
-          named = later.named;
-          count = omega (arith, later.count, count_insert n i es there);
-        }
+        rest (insert n i es) found here.1 (named_insert all n i es (f, here.0, is) named) g
 
 -- ---- what the order of keys says
 
@@ -350,24 +310,15 @@ named_positions fs [] all = tt
 named_positions fs (e ∷ es) all =
     ((all.0.0, all.0.1, ap is_some all.0.2), named_positions fs es all.1)
 
--- an order of keys has an entry for each field and no other
-found : (fs : List Field) (ps : List ℕ) (k : InEntries fs ps) → Found fs fs [] k.entries
+-- each entry of an order of keys is that of a field
+found : (fs : List Field) (ps : List ℕ) (k : InEntries fs ps) → AllNamed fs k.entries
 found fs ps k = found_from fs fs 0 [] k.entries refl tt k.from
 
 -- each position in the order is that of a field
 pub positions_are_named : (fs : List Field) (ps : List ℕ) → key_order fs ≡ Some ps →
     AllByRecursion (IsNamedAt fs) ps
 positions_are_named fs ps e = let k = in_entries fs ps e in
-    subst (AllByRecursion (IsNamedAt fs)) k.are (named_positions fs k.entries (found fs ps k).named)
-
--- as many as there are fields
-pub positions_count : (fs : List Field) (ps : List ℕ) → key_order fs ≡ Some ps →
-    length ps ≡ length fs
-positions_count fs ps e =
-    let k = in_entries fs ps e in
-    let many : length (positions k.entries) ≡ length k.entries = length-map k.entries (λ e. e.1) in
-    let same = ap length k.are in
-    omega (arith, many, same, (found fs ps k).count)
+    subst (AllByRecursion (IsNamedAt fs)) k.are (named_positions fs k.entries (found fs ps k))
 
 -- where all names are found, each field has one, and these are they
 fields_named : (fs : List Field) (ns : List (List ℕ)) → names fs ≡ Some ns →
@@ -392,6 +343,13 @@ are_named fs ps e =
     let k = in_entries fs ps e in
     let n = has_names fs k.entries k.from in
     (fields_named fs n.all n.are).0
+
+-- fields that are shown by name have an order of keys
+pub order_of_keys : (fs : List Field) (k : Keys) → AreKeys fs k →
+    (k ≡ keys.InOrder) ⊎ ((o : Vec ℕ Global) × (k ≡ keys.Sorted o)) →
+    (ps : List ℕ) × (key_order fs ≡ Some ps)
+order_of_keys fs k a (inl e) = (range_with_len 0 (length fs), subst (AreKeys fs) e a)
+order_of_keys fs k a (inr (o, e)) = (o.items, subst (AreKeys fs) e a)
 
 -- ---- the JSON of fields
 
@@ -449,7 +407,7 @@ sorted_json_is fs ps ds e h =
     ∙ ap object (ap (λ ns. with_members ns (items_of ds) no_members) (sym same.1)
     ∙ members_placed (data_at ds) n.all 0 ds [] (omega (arith, count, h)) (gives_from ds 0 ds refl)
     ∙ ap (members_by (data_at ds)) n.placed_are
-    ∙ members_at_named fs ds k.entries (found fs ps k).named
+    ∙ members_at_named fs ds k.entries (found fs ps k)
     ∙ ap (members_at fs ds) k.are)
 
 -- the members at positions that count up are those in the order of the fields

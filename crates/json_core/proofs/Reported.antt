@@ -59,7 +59,6 @@ use Rattle.json_core.specs.Json.{json_of, json_seen, all_json, each_json, unsign
 use Rattle.json_core.specs.Json.{signed_json, unsigned_data, signed_data, bytes_json, wide_json}
 use Rattle.json_core.specs.Json.{parts_json, fields_json, arm_json, arm_at_position, arm_types}
 use Rattle.json_core.specs.Json.{part_types, element_type}
-use Rattle.json_core.specs.Ordered.{fields_in}
 use Rattle.json_core.proofs.Children.{jsons, all_is, each_is}
 
 -- ---- what the layout of a type says of its definition
@@ -370,17 +369,3 @@ arm_is s q a e h =
     let is : h.0 ≡ a = cc in
     h.2 ∙ ap (λ (x : Arm). json.object
     (member x.name (fields_json x.fields (jsons (children_of s))) no_members)) is
-
--- ---- the fields of a type
-
--- the fields of a composite are its own, whatever arm is asked for
-pub composite_fields_in : (d : Option TypeDef) (q : ℕ) (fs : List Field) →
-    composite_fields d ≡ Some fs → fields_in d q ≡ Some fs
-composite_fields_in (Some (Def.Composite gs)) q fs e = e
-composite_fields_in _ q fs e = absurd cc
-
--- the fields of an arm of a variant are the arm's
-pub arm_fields_in : (d : Option TypeDef) (q : ℕ) (a : Arm) → defined_arm d q ≡ Some a →
-    fields_in d q ≡ Some a.fields
-arm_fields_in (Some (Def.Variant arms)) q a e = ap (option_map (λ (x : Arm). x.fields)) e
-arm_fields_in _ q a e = absurd cc

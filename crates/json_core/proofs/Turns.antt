@@ -1,24 +1,20 @@
 -- The tokens of an object as its members are written one after the other.
-use Rattle.std.proofs.Common.{◌≡◌, ℕ, zero, suc, ◌+◌, ◌-◌, ◌<◌, ◌≤◌, List, [], ◌∷◌, ◌++◌, length}
+use Rattle.std.proofs.Common.{◌≡◌, ℕ, zero, suc, ◌+◌, ◌<◌, List, [], ◌∷◌, ◌++◌, length}
 use Rattle.std.proofs.Common.{drop, get_or, Some, refl, sym, ap, ap₂, ◌∙◌, subst, arith}
-use Rattle.std.proofs.Common.{get_or-take, get_or-drop}
-use Rattle.std.specs.Prelude.{slice_range, slice_get, unwrap_or, option_and_then, IsSome}
+use Rattle.std.specs.Prelude.{slice_get, unwrap_or, option_and_then, IsSome}
 use Rattle.std.specs.List.{AllByRecursion}
 use Rattle.std.proofs.lemmas.List.{drop_more}
 use Rattle.std.proofs.lemmas.Option.{get_or_from_slice_get}
-use Rattle.std.proofs.Math.ListN.{get_or-append, drop_of_length-le}
 use Rattle.json.specs.Token.{Token, begin_object, end_object, begin_array, end_array, key, number}
 use Rattle.json.specs.Tree.{json_tokens, items_tokens, members_tokens}
 use Rattle.serde_json.specs.Data.{Data, Items, Members, no_items, item, no_members, member, array}
 use Rattle.serde_json.specs.Data.{object}
 use Rattle.serde_json.specs.Written.{outline, items_outline, members_outline}
 use Rattle.registry_core.specs.declared.definition.Field.{Field}
-use Rattle.json_core.specs.declared.orders.Keys.TheVariants as keys
-use Rattle.json_core.specs.Ordered.{OrdersView, AreKeys, Grows}
 use Rattle.token_core.specs.Tokens.{Text, prints}
 use Rattle.json_core.specs.Tokens.{name_at, data_at, members_at, members_in_order}
 use Rattle.token_core.proofs.Outputs.{prints_again}
-use Rattle.json_core.proofs.Ordered.{IsNamedAt, positions_count}
+use Rattle.json_core.proofs.Ordered.{IsNamedAt}
 
 -- an object with one member is printed by its begin, its key, the value and its end in turn
 pub one_member : (old : Text) (ts : List Token) (k : List ℕ) →
@@ -48,53 +44,6 @@ in_order_turn old new f fs d ds n e said =
 
 -- ---- in the order of keys
 
--- a position at which there is an element is less than the length
-slice_within : {X : Type 0} (xs : List X) (i : ℕ) (x : X) → slice_get xs i ≡ Some x → i < length xs
-slice_within [] i x e = absurd cc
-slice_within (y ∷ xs) zero x e = omega arith
-slice_within (y ∷ xs) (suc i) x e = let later = slice_within xs i x e in omega (arith, later)
-
--- the position that is next in the order, and its field
-pub record Turn (fs : List Field) (order : List ℕ) (turn p : ℕ) : Type 0 where
-  pub here : drop turn order ≡ p ∷ drop (turn + 1) order
-  pub field : IsNamedAt fs p
-  pub within : p < length fs
-
--- the position at a turn in a range of the kept positions is the one so far after its start
-order_at : (ps : List ℕ) (start k turn : ℕ) → turn < k →
-    get_or (slice_range ps start (start + k)) turn 0 ≡ get_or ps (start + turn) 0
-order_at ps start k turn h =
-    let within : turn < (start + k) - start = omega (arith, h) in rw (get_or-take, get_or-drop)
-
--- each turn has the order's next position, also where positions were appended, and its field
-pub turn_at : (fs : List Field) (old new : OrdersView) (start turn p : ℕ) → Grows old new →
-    AreKeys old.positions fs (keys.Sorted start) → turn < length fs → AllByRecursion (IsNamedAt fs)
-    (drop turn (slice_range old.positions start (start + length fs))) →
-    p ≡ get_or new.positions (start + turn) 0 →
-    Turn fs (slice_range old.positions start (start + length fs)) turn p
-turn_at fs old new start turn p grown keys less named is =
-    let order = slice_range old.positions start (start + length fs) in
-    let count : length order ≡ length fs = positions_count fs order keys.1 in
-    let inside : start + turn < length old.positions = omega (arith, keys.0, less) in
-    let same : get_or order turn 0 ≡ p = order_at old.positions start (length fs) turn less
-    ∙ sym (get_or-append old.positions grown.more 0 (start + turn) inside)
-    ∙ ap (λ l. get_or l (start + turn) 0) (sym grown.positions) ∙ sym is in
-    let next : drop turn order ≡ p ∷ drop (turn + 1) order =
-    drop_more order turn 0 (omega (arith, count, less))
-    ∙ ap (λ q. q ∷ drop (turn + 1) order) same in
-    let field : IsNamedAt fs p = (subst (AllByRecursion (IsNamedAt fs)) next named).0 in
-    record {
-      here = next;
-      field = field;
-      within = slice_within fs p field.0 field.1;
-    }
-
--- the positions after it are those of fields too
-pub named_after : (fs : List Field) (order : List ℕ) (turn p : ℕ) → Turn fs order turn p →
-    AllByRecursion (IsNamedAt fs) (drop turn order) →
-    AllByRecursion (IsNamedAt fs) (drop (turn + 1) order)
-named_after fs order turn p t named = (subst (AllByRecursion (IsNamedAt fs)) t.here named).1
-
 -- the field that is read there has a name
 pub name_read : (fs : List Field) (p : ℕ) (f : Field) → IsNamedAt fs p → f ≡ get_or fs p f →
     IsSome f.name
@@ -108,19 +57,31 @@ name_is fs p f n h is e = let same : f ≡ h.0 = is ∙ get_or_from_slice_get fs
     ap (λ o. unwrap_or (option_and_then (λ (g : Field). g.name) o) []) (h.1 ∙ ap Some (sym same))
     ∙ ap (λ o. unwrap_or o []) (sym e)
 
+-- a position at which there is an element is less than the length
+pub slice_within : {X : Type 0} (xs : List X) (i : ℕ) (x : X) → slice_get xs i ≡ Some x →
+    i < length xs
+slice_within [] i x e = absurd cc
+slice_within (y ∷ xs) zero x e = omega arith
+slice_within (y ∷ xs) (suc i) x e = let later = slice_within xs i x e in omega (arith, later)
+
+-- the next position of the order is that of a field with a name, and so are those after it
+pub next_named : (fs : List Field) (order : List ℕ) (i : ℕ) → i < length order →
+    AllByRecursion (IsNamedAt fs) (drop i order) →
+    IsNamedAt fs (get_or order i 0) × AllByRecursion (IsNamedAt fs) (drop (i + 1) order)
+next_named fs order i h named = subst (AllByRecursion (IsNamedAt fs)) (drop_more order i 0 h) named
+
 -- a member that is written is no longer left
-pub sorted_turn : (fs : List Field) (ds : List Data) (order : List ℕ) (turn p : ℕ) (f : Field)
-    (n : List ℕ) (d : Data) (old new : Text) → Turn fs order turn p → f ≡ get_or fs p f →
+pub sorted_turn : (fs : List Field) (ds : List Data) (ps : List ℕ) (p : ℕ) (f : Field)
+    (n : List ℕ) (d : Data) (old new : Text) → IsNamedAt fs p → f ≡ get_or fs p f →
     Some n ≡ f.name → data_at ds p ≡ d →
     new ≡ prints (prints old (key n ∷ [])) (json_tokens (outline d)) →
-    prints new (members_tokens (members_outline (members_at fs ds (drop (turn + 1) order))))
-    ≡ prints old (members_tokens (members_outline (members_at fs ds (drop turn order))))
-sorted_turn fs ds order turn p f n d old new t is named read said =
-    let ms = members_tokens (members_outline (members_at fs ds (drop (turn + 1) order))) in
+    prints new (members_tokens (members_outline (members_at fs ds ps)))
+    ≡ prints old (members_tokens (members_outline (members_at fs ds (p ∷ ps))))
+sorted_turn fs ds ps p f n d old new field is named read said =
+    let ms = members_tokens (members_outline (members_at fs ds ps)) in
     ap (λ w. prints w ms) said ∙ next_member old (json_tokens (outline d)) ms n
     ∙ ap₂ (λ m x. prints old (key m ∷ (json_tokens (outline x) ++ ms)))
-    (sym (name_is fs p f n t.field is named)) (sym read)
-    ∙ ap (λ ps. prints old (members_tokens (members_outline (members_at fs ds ps)))) (sym t.here)
+    (sym (name_is fs p f n field is named)) (sym read)
 
 -- ---- the whole object
 
@@ -148,11 +109,6 @@ pub no_item_left : (fs : List Field) (ds : List Data) → length ds ≡ 0 →
 no_item_left [] ds e = refl
 no_item_left (f ∷ fs) [] e = refl
 no_item_left (f ∷ fs) (d ∷ ds) e = absurd cc
-
--- where no position of the order is left, no member is
-pub no_position_left : (fs : List Field) (ds : List Data) (order : List ℕ) (turn : ℕ) →
-    length order ≤ turn → members_at fs ds (drop turn order) ≡ no_members
-no_position_left fs ds order turn h = ap (members_at fs ds) (drop_of_length-le order h)
 
 -- ---- an array
 

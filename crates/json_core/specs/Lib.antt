@@ -1,6 +1,5 @@
 pub mod Defined
 pub mod Json
 pub mod Laws
-pub mod Ordered
 pub mod Printed
 pub mod Tokens

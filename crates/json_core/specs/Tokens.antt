@@ -1,5 +1,7 @@
 -- The tokens of a value's JSON.
-use Rattle.std.specs.Prelude.{ℕ, List, [], ◌∷◌, option_and_then, unwrap_or, slice_get, Result}
+use Rattle.std.specs.Prelude.{ℕ, List, [], ◌∷◌, map, option_and_then, unwrap_or, slice_get}
+use Rattle.std.specs.Prelude.{IsSome, Result}
+use Rattle.std.specs.List.{AllByRecursion}
 use Rattle.json.specs.Tree.{json_tokens}
 use Rattle.serde_json.specs.Data.{Data, null, Members, no_members, member}
 use Rattle.serde_json.specs.Written.{outline}
@@ -28,3 +30,10 @@ abbrev pub members_in_order : List Field → List Data → Members
 members_in_order [] ds = no_members
 members_in_order (f ∷ fs) [] = no_members
 members_in_order (f ∷ fs) (d ∷ ds) = member (unwrap_or f.name []) d (members_in_order fs ds)
+
+-- each field has a name
+abbrev pub AreNamed : List Field → Type 0
+AreNamed fs = AllByRecursion (λ f. IsSome f.name) fs
+
+abbrev pub names_of : List Field → List (List ℕ)
+names_of fs = map (λ f. unwrap_or f.name []) fs

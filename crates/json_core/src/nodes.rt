@@ -1,19 +1,17 @@
 //! A value as a tree of `serde_json`.
 
-ghost use Rattle.std.specs.Prelude.{◌≡◌, ◌<◌, ◌^◌, Some, length, map, IfOk};
+ghost use Rattle.std.specs.Prelude.{◌≡◌, map, IfOk};
 ghost use Rattle.std.specs.Char.{encode_utf8};
 ghost use Rattle.serde_json.specs.Data.{no_members, member, object, string};
 ghost use Rattle.serde_json.specs.View.{view, items_view, items_of};
 ghost use Rattle.graph_core.specs.Types.{shape};
 ghost use Rattle.node_core.specs.Shown.{children_of};
 ghost use Rattle.json_core.specs.Json.{fields_json, parts_json, json_seen};
-ghost use Rattle.json_core.specs.Ordered.{fields_at, Grows};
 
 use crate::defined::{compact_json, composite_fields, defined_arm, integer_json};
 use crate::fields::fields_json;
 use crate::hexadecimal::bytes_json;
 use crate::integers::{signed_json, unsigned_json, wide_json};
-use crate::orders::{FieldsOf, Orders};
 use registry_core::Arm;
 use serde_json::{Map, Value};
 use std::alloc::{AllocError, Allocator, Global};
@@ -38,74 +36,45 @@ fn single(alloc: Global, name: &str, value: Value) -> Result<Value, AllocError>
 }
 
 /// Returns the value of a composite or a tuple, given its parts.
-fn parts_json(
-    alloc: Global,
-    orders: &mut Orders<'_>,
-    node: &NodeRef<'_, '_>,
-    items: Vec<Value>,
-) -> Result<Value, AllocError>
-    requires { orders.old.types ≡ node.now.types }
-    ensures json { IfOk result
+fn parts_json(alloc: Global, node: &NodeRef<'_, '_>, items: Vec<Value>) -> Result<Value, AllocError>
+    ensures { IfOk result
         (λ v. view v ≡ parts_json (shape node.now.types node.now.ty) (items_view items.items)) }
-    ensures grows { Grows orders.old orders.new }
 {
-    let ty = node.type_id();
-    match composite_fields(orders.checked(), node) {
-        Some(fields) => fields_json(alloc, orders, FieldsOf { ty: ty.0, arm: 0 }, fields, items),
+    match composite_fields(node) {
+        Some(fields) => fields_json(alloc, fields, items),
         None => Ok(Value::Array(items)),
     }
 }
 
 /// Returns the value of an arm: an object whose one key is the arm's name.
-fn arm_json(
-    alloc: Global,
-    orders: &mut Orders<'_>,
-    of: FieldsOf,
-    arm: &Arm,
-    items: Vec<Value>,
-) -> Result<Value, AllocError>
-    requires fields { fields_at orders.old.types of ≡ Some arm.now.fields }
-    requires few { length arm.now.fields < 2 ^ 32 }
-    ensures json { IfOk result
+fn arm_json(alloc: Global, arm: &Arm, items: Vec<Value>) -> Result<Value, AllocError>
+    ensures { IfOk result
         (λ v. view v ≡ object (member arm.now.name
         (fields_json arm.now.fields (items_view items.items)) no_members)) }
-    ensures grows { Grows orders.old orders.new }
 {
-    let fields = fields_json(alloc, orders, of, arm.fields.as_slice(), items)?;
+    let fields = fields_json(alloc, &arm.fields, items)?;
     single(alloc, arm.name.as_str(), fields)
 }
 
 /// Returns a node as JSON, given its children as JSON, in order.
-fn with_items(
-    alloc: Global,
-    orders: &mut Orders<'_>,
-    node: &NodeRef<'_, '_>,
-    items: Vec<Value>,
-) -> Result<Value, AllocError>
-    requires types { orders.old.types ≡ node.now.types }
-    requires items { items_view items.items ≡ items_of (map json_seen (children_of node.now)) }
-    ensures json { IfOk result (λ v. view v ≡ json_seen node.now) }
-    ensures grows { Grows orders.old orders.new }
+fn with_items(alloc: Global, node: &NodeRef<'_, '_>, items: Vec<Value>) -> Result<Value, AllocError>
+    requires { items_view items.items ≡ items_of (map json_seen (children_of node.now)) }
+    ensures { IfOk result (λ v. view v ≡ json_seen node.now) }
 {
-    let checked = orders.checked();
     match node.what() {
         What::Empty => Ok(Value::Null),
         What::Bool(x) => Ok(Value::Bool(x)),
         What::Char(x) => char_json(alloc, x),
         What::Text => Value::try_from_str(alloc, node.text().unwrap()),
         What::Bytes => bytes_json(alloc, node.bytes().unwrap()),
-        What::Unsigned(n) => unsigned_json(alloc, integer_json(checked, node), n),
-        What::Signed(n) => signed_json(alloc, integer_json(checked, node), n),
+        What::Unsigned(n) => unsigned_json(alloc, integer_json(node), n),
+        What::Signed(n) => signed_json(alloc, integer_json(node), n),
         What::Wide(bytes) => wide_json(alloc, bytes),
-        What::Compact(n) => unsigned_json(alloc, compact_json(checked, node), n),
-        What::Fields => parts_json(alloc, orders, node, items),
+        What::Compact(n) => unsigned_json(alloc, compact_json(node), n),
+        What::Fields => parts_json(alloc, node, items),
         What::Arm { position } => {
-            let arm = defined_arm(checked, node, position).unwrap();
-            let of = FieldsOf {
-                ty: node.type_id().0,
-                arm: position,
-            };
-            arm_json(alloc, orders, of, arm, items)
+            let arm = defined_arm(node, position).unwrap();
+            arm_json(alloc, arm, items)
         }
         What::List => Ok(Value::Array(items)),
         What::Count(count) => single(alloc, "count", Value::from(count)),
@@ -113,26 +82,21 @@ fn with_items(
 }
 
 /// Returns a node and all that is below it as JSON. The calls nest as deep as the value.
-fn node_json(
-    alloc: Global,
-    orders: &mut Orders<'_>,
-    node: &NodeRef<'_, '_>,
-) -> Result<Value, AllocError>
-    requires { orders.old.types ≡ node.now.types }
-    ensures json { IfOk result (λ v. view v ≡ json_seen node.now) }
-    ensures grows { Grows orders.old orders.new }
+fn node_json(alloc: Global, node: &NodeRef<'_, '_>) -> Result<Value, AllocError>
+    ensures { IfOk result (λ v. view v ≡ json_seen node.now) }
 {
     let mut items = Vec::new(alloc);
     'children: for child in node.children() {
-        items.push(node_json(alloc, orders, &child)?)?;
+        items.push(node_json(alloc, &child)?)?;
     }
-    with_items(alloc, orders, node, items)
+    with_items(alloc, node, items)
 }
 
 /// Returns a value as a tree of `serde_json` (this project's own table, `docs/FORMATS.md`, "JSON").
 ///
-/// It takes time in proportion to the tree, and for each type that it meets the time to sort its
-/// names. The calls nest as deep as the value, at most 1025 levels; the tree at most twice as deep.
+/// It takes time in proportion to the tree, and the time to insert the names of each object into
+/// its map. The calls nest as deep as the value, at most 1025 levels; the tree at most twice as
+/// deep.
 ///
 /// # Errors
 ///
@@ -143,6 +107,5 @@ pub fn to_json<A: Allocator>(
 ) -> Result<Value, AllocError>
     ensures { IfOk result (λ json. view json ≡ json_seen value.now) }
 {
-    let mut orders = Orders::new(alloc, value.checked());
-    node_json(alloc, &mut orders, &value.root())
+    node_json(alloc, &value.root())
 }

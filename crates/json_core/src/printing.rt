@@ -6,7 +6,6 @@ ghost use Rattle.std.specs.Io.KnownBytes.{Appends};
 ghost use Rattle.json_core.specs.Json.{json_text};
 ghost use Rattle.json_core.specs.Printed.{MeetsPrint, written_of, is_write};
 
-use crate::orders::Orders;
 use crate::writing::write_node;
 use scale_core::{Sink, WriteOnce};
 use std::alloc::{AllocError, Allocator, Global};
@@ -32,13 +31,11 @@ pub enum PrintFault {
 /// length, and above a mebibyte at most a quarter more. Besides, it allocates as much as the
 /// longest text with an escape from them.
 ///
-/// It allocates the order of keys of each composite and arm that it meets (four bytes a field and
-/// an entry), and 40 bytes for each child of an open object with more than eight fields whose names
+/// It allocates 40 bytes for each child of an open object with more than eight fields whose names
 /// are out of order, from `alloc`.
 ///
-/// It takes time in proportion to the text, a look-up for each composite and arm of two fields or
-/// more, and the time to sort the names of each type that it meets. The calls nest as deep as the
-/// value, at most 1025 levels, which take some 650 KiB of stack.
+/// It takes time in proportion to the text. The calls nest as deep as the value, at most 1025
+/// levels, which take some 650 KiB of stack.
 ///
 /// # Errors
 ///
@@ -51,8 +48,7 @@ pub fn json_text<A: Allocator, B: Allocator + Clone>(
     ensures { IfOk result (λ text. string_bytes text ≡ json_text value.now) }
 {
     let mut out = Output::with_room(text_alloc, FIRST_ROOM)?;
-    let mut orders = Orders::new(alloc, value.checked());
-    write_node(&mut out, &mut orders, &value.root())?;
+    write_node(&mut out, alloc, &value.root())?;
     Ok(out.into_text())
 }
 

@@ -2,6 +2,7 @@
 
 ghost use Rattle.std.specs.Prelude.{◌≡◌, ◌<◌, ◌^◌, [], ◌∷◌, Some, length, map, codes, IfOk};
 ghost use Rattle.std.specs.Prelude.{OnOk, FitsSigned, ◌⊎◌, slice_get};
+ghost use Rattle.std.specs.List.{range_with_len};
 ghost use Rattle.std.specs.Int.{w64};
 ghost use Rattle.std.specs.Char.{encode_utf8};
 ghost use Rattle.json.specs.Token.{end_array, string};
@@ -12,21 +13,21 @@ ghost use Rattle.serde_json.specs.Written.{items_outline};
 ghost use Rattle.node_core.specs.Shown.{children_of};
 ghost use Rattle.json_core.specs.Defined.{unsigned_by, signed_by};
 ghost use Rattle.json_core.specs.Json.{bytes_json, wide_json, json_seen, fields_json};
-ghost use Rattle.json_core.specs.Ordered.{fields_at, AreKeys, ArePlain, Grows};
-ghost use Rattle.token_core.specs.Plain.{OnPlain};
+ghost use Rattle.registry_core.specs.Keys.{key_order};
 ghost use Rattle.token_core.specs.Tokens.{AddsTokens, prints};
 ghost use Rattle.json_core.specs.Tokens.{AddsValue, data_at};
 ghost use Rattle.json_core.specs.declared.integer_json.IntegerJson.TheVariants.{Number};
-ghost use Rattle.json_core.specs.declared.orders.Keys.TheVariants.{InOrder, Sorted};
 
 use crate::defined::{compact_json, composite_fields, defined_arm, integer_json};
+use crate::fields::name_of;
 use crate::integer_json::IntegerJson;
-use crate::names::{FEW, name_of};
-use crate::orders::{FieldsOf, Keys, Known, Orders};
-use registry_core::{Arm, Field};
+use registry_core::{Arm, Field, Fields, Keys};
 use std::alloc::{AllocError, Allocator, Global};
 use token_core::{Escapes, Output};
 use value_core::{NodeRef, What};
+
+/// The most fields that are few: a step past each child costs less than memory for a list.
+const FEW: usize = 8;
 
 /// Writes an unsigned integer as a number or as a text of its decimal digits.
 fn write_unsigned<A: Allocator + Clone>(
@@ -87,7 +88,7 @@ fn write_count<A: Allocator + Clone>(out: &mut Output<A>, count: u32) -> Result<
     ensures { AddsValue result out.old out.new
         (object (member (codes "count") (number (unsigned count)) no_members)) }
 {
-    out.begin_member("count")?;
+    out.begin_member("count", Escapes::None)?;
     out.unsigned(u64::from(count))?;
     out.end_object()
 }
@@ -126,21 +127,19 @@ fn children<'v, 'r>(
 #[inline(always)]
 fn write_child<A: Allocator + Clone>(
     out: &mut Output<A>,
-    orders: &mut Orders<'_>,
+    alloc: Global,
     listed: &[NodeRef<'_, '_>],
     node: &NodeRef<'_, '_>,
     position: usize,
 ) -> Result<(), AllocError>
-    requires types { orders.old.types ≡ node.now.types }
     requires listed { (listed.now ≡ []) ⊎ (listed.now ≡ children_of node.now) }
     requires there { position < length (children_of node.now) }
-    ensures adds { AddsValue result out.old out.new
+    ensures { AddsValue result out.old out.new
         (data_at (map json_seen (children_of node.now)) position) }
-    ensures grows { Grows orders.old orders.new }
 {
     match listed.get(position) {
-        Some(child) => write_node(out, orders, child),
-        None => write_node(out, orders, &child_at(node, position)),
+        Some(child) => write_node(out, alloc, child),
+        None => write_node(out, alloc, &child_at(node, position)),
     }
 }
 
@@ -149,16 +148,14 @@ fn write_child<A: Allocator + Clone>(
 #[inline(always)]
 fn write_each<A: Allocator + Clone>(
     out: &mut Output<A>,
-    orders: &mut Orders<'_>,
+    alloc: Global,
     node: &NodeRef<'_, '_>,
 ) -> Result<(), AllocError>
-    requires { orders.old.types ≡ node.now.types }
-    ensures adds { OnOk result (prints out.new (end_array ∷ []) ≡ prints out.old
+    ensures { OnOk result (prints out.new (end_array ∷ []) ≡ prints out.old
         (items_tokens (items_outline (items_of (map json_seen (children_of node.now)))))) }
-    ensures grows { Grows orders.old orders.new }
 {
     'children: for child in node.children() {
-        write_node(out, orders, &child)?;
+        write_node(out, alloc, &child)?;
     }
     Ok(())
 }
@@ -167,16 +164,14 @@ fn write_each<A: Allocator + Clone>(
 #[cycle(write)]
 fn write_items<A: Allocator + Clone>(
     out: &mut Output<A>,
-    orders: &mut Orders<'_>,
+    alloc: Global,
     node: &NodeRef<'_, '_>,
 ) -> Result<(), AllocError>
-    requires { orders.old.types ≡ node.now.types }
-    ensures adds { AddsValue result out.old out.new
+    ensures { AddsValue result out.old out.new
         (array (items_of (map json_seen (children_of node.now)))) }
-    ensures grows { Grows orders.old orders.new }
 {
     out.begin_array()?;
-    write_each(out, orders, node)?;
+    write_each(out, alloc, node)?;
     out.end_array()
 }
 
@@ -186,52 +181,45 @@ fn write_items<A: Allocator + Clone>(
 #[inline(always)]
 fn write_in_order<A: Allocator + Clone>(
     out: &mut Output<A>,
-    orders: &mut Orders<'_>,
+    alloc: Global,
     fields: &[Field],
-    escapes: Escapes,
     node: &NodeRef<'_, '_>,
 ) -> Result<(), AllocError>
-    requires types { orders.old.types ≡ node.now.types }
-    requires keys { AreKeys orders.old.positions fields.now InOrder }
-    requires escapes { OnPlain escapes (ArePlain fields.now) }
+    requires order { key_order fields.now ≡ Some (range_with_len 0 (length fields.now)) }
     requires count { length fields.now ≡ length (children_of node.now) }
-    ensures adds { AddsValue result out.old out.new
+    ensures { AddsValue result out.old out.new
         (fields_json fields.now (items_of (map json_seen (children_of node.now)))) }
-    ensures grows { Grows orders.old orders.new }
 {
     out.begin_object()?;
     'members: for (field, child) in fields.iter().zip(node.children()) {
-        out.key(name_of(field), escapes)?;
-        write_node(out, orders, &child)?;
+        let name = name_of(field);
+        out.key(name.as_str(), name.escapes())?;
+        write_node(out, alloc, &child)?;
     }
     out.end_object()
 }
 
-/// Writes the children of a node as an object, each at the name of its field, in the order that is
-/// kept from `start` on.
+/// Writes the children of a node as an object, each at the name of its field, in this order.
 #[cycle(write)]
 fn write_sorted<A: Allocator + Clone>(
     out: &mut Output<A>,
-    orders: &mut Orders<'_>,
+    alloc: Global,
     fields: &[Field],
-    start: usize,
-    escapes: Escapes,
+    order: &[u32],
     node: &NodeRef<'_, '_>,
 ) -> Result<(), AllocError>
-    requires types { orders.old.types ≡ node.now.types }
-    requires keys { AreKeys orders.old.positions fields.now (Sorted start) }
-    requires escapes { OnPlain escapes (ArePlain fields.now) }
+    requires order { key_order fields.now ≡ Some order.now }
     requires count { length fields.now ≡ length (children_of node.now) }
-    ensures adds { AddsValue result out.old out.new
+    ensures { AddsValue result out.old out.new
         (fields_json fields.now (items_of (map json_seen (children_of node.now)))) }
-    ensures grows { Grows orders.old orders.new }
 {
-    let children = children(orders.alloc(), fields.len(), node)?;
+    let children = children(alloc, fields.len(), node)?;
     out.begin_object()?;
-    'members: for turn in 0..fields.len() {
-        let position = orders.position(start, turn) as usize;
-        out.key(name_of(&fields[position]), escapes)?;
-        write_child(out, orders, &children, node, position)?;
+    'members: for &place in order {
+        let position = place as usize;
+        let name = name_of(&fields[position]);
+        out.key(name.as_str(), name.escapes())?;
+        write_child(out, alloc, &children, node, position)?;
     }
     out.end_object()
 }
@@ -240,24 +228,18 @@ fn write_sorted<A: Allocator + Clone>(
 #[cycle(write)]
 fn write_fields<A: Allocator + Clone>(
     out: &mut Output<A>,
-    orders: &mut Orders<'_>,
-    of: FieldsOf,
-    fields: &[Field],
+    alloc: Global,
+    fields: &Fields,
     node: &NodeRef<'_, '_>,
 ) -> Result<(), AllocError>
-    requires types { orders.old.types ≡ node.now.types }
-    requires fields { fields_at orders.old.types of ≡ Some fields.now }
-    requires few { length fields.now < 2 ^ 32 }
-    requires count { length fields.now ≡ length (children_of node.now) }
-    ensures adds { AddsValue result out.old out.new
+    requires { length fields.now ≡ length (children_of node.now) }
+    ensures { AddsValue result out.old out.new
         (fields_json fields.now (items_of (map json_seen (children_of node.now)))) }
-    ensures grows { Grows orders.old orders.new }
 {
-    let Known { keys, escapes } = orders.keys(of, fields)?;
-    match keys {
-        Keys::Unnamed => write_items(out, orders, node),
-        Keys::InOrder => write_in_order(out, orders, fields, escapes, node),
-        Keys::Sorted { start } => write_sorted(out, orders, fields, start, escapes, node),
+    match fields.keys() {
+        Keys::Unnamed => write_items(out, alloc, node),
+        Keys::InOrder => write_in_order(out, alloc, fields.as_slice(), node),
+        Keys::Sorted(order) => write_sorted(out, alloc, fields.as_slice(), order.as_slice(), node),
     }
 }
 
@@ -266,39 +248,24 @@ fn write_fields<A: Allocator + Clone>(
 #[cycle(write)]
 fn write_arm<A: Allocator + Clone>(
     out: &mut Output<A>,
-    orders: &mut Orders<'_>,
-    of: FieldsOf,
+    alloc: Global,
     arm: &Arm,
     node: &NodeRef<'_, '_>,
 ) -> Result<(), AllocError>
-    requires types { orders.old.types ≡ node.now.types }
-    requires fields { fields_at orders.old.types of ≡ Some arm.now.fields }
-    requires few { length arm.now.fields < 2 ^ 32 }
-    requires count { length arm.now.fields ≡ length (children_of node.now) }
-    ensures adds { AddsValue result out.old out.new (object (member arm.now.name
+    requires { length arm.now.fields ≡ length (children_of node.now) }
+    ensures { AddsValue result out.old out.new (object (member arm.now.name
         (fields_json arm.now.fields (items_of (map json_seen (children_of node.now))))
         no_members)) }
-    ensures grows { Grows orders.old orders.new }
 {
-    let (name, fields) = (arm.name.as_str(), arm.fields.as_slice());
-    let Known { keys, escapes } = orders.keys(of, fields)?;
-    match keys {
-        Keys::Unnamed => {
-            out.begin_array_member(name)?;
-            write_each(out, orders, node)?;
-            out.end_array_member()
-        }
-        Keys::InOrder => {
-            out.begin_member(name)?;
-            write_in_order(out, orders, fields, escapes, node)?;
-            out.end_object()
-        }
-        Keys::Sorted { start } => {
-            out.begin_member(name)?;
-            write_sorted(out, orders, fields, start, escapes, node)?;
-            out.end_object()
-        }
+    let name = &arm.name;
+    if let Keys::Unnamed = arm.fields.keys() {
+        out.begin_array_member(name.as_str(), name.escapes())?;
+        write_each(out, alloc, node)?;
+        return out.end_array_member();
     }
+    out.begin_member(name.as_str(), name.escapes())?;
+    write_fields(out, alloc, &arm.fields, node)?;
+    out.end_object()
 }
 
 /// Writes a node and all that is below it.
@@ -306,39 +273,31 @@ fn write_arm<A: Allocator + Clone>(
 #[inline(always)]
 pub(crate) fn write_node<A: Allocator + Clone>(
     out: &mut Output<A>,
-    orders: &mut Orders<'_>,
+    alloc: Global,
     node: &NodeRef<'_, '_>,
 ) -> Result<(), AllocError>
-    requires { orders.old.types ≡ node.now.types }
-    ensures adds { AddsValue result out.old out.new (json_seen node.now) }
-    ensures grows { Grows orders.old orders.new }
+    ensures { AddsValue result out.old out.new (json_seen node.now) }
 {
     // Inlined into the loops over children, so that a leaf costs no call.
-    let checked = orders.checked();
-    let ty = node.type_id();
     match node.what() {
         What::Empty => out.null(),
         What::Bool(x) => out.boolean(x),
         What::Char(x) => write_char(out, x),
         What::Text => out.string(node.text().unwrap()),
         What::Bytes => write_bytes(out, node.bytes().unwrap()),
-        What::Unsigned(n) => write_unsigned(out, integer_json(checked, node), n),
-        What::Signed(n) => write_signed(out, integer_json(checked, node), n),
+        What::Unsigned(n) => write_unsigned(out, integer_json(node), n),
+        What::Signed(n) => write_signed(out, integer_json(node), n),
         What::Wide(bytes) => write_wide(out, bytes),
-        What::Compact(n) => write_unsigned(out, compact_json(checked, node), n),
-        What::Fields => match composite_fields(checked, node) {
-            Some(fields) => {
-                let of = FieldsOf { ty: ty.0, arm: 0 };
-                write_fields(out, orders, of, fields, node)
-            }
-            None => write_items(out, orders, node),
+        What::Compact(n) => write_unsigned(out, compact_json(node), n),
+        What::Fields => match composite_fields(node) {
+            Some(fields) => write_fields(out, alloc, fields, node),
+            None => write_items(out, alloc, node),
         },
-        What::Arm { position: arm } => {
-            let of = FieldsOf { ty: ty.0, arm };
-            let arm = defined_arm(checked, node, arm).unwrap();
-            write_arm(out, orders, of, arm, node)
+        What::Arm { position } => {
+            let arm = defined_arm(node, position).unwrap();
+            write_arm(out, alloc, arm, node)
         }
-        What::List => write_items(out, orders, node),
+        What::List => write_items(out, alloc, node),
         What::Count(count) => write_count(out, count),
     }
 }

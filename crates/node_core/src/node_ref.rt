@@ -47,6 +47,14 @@ impl<'v, 'r> NodeRef<'v, 'r> {
         }
     }
 
+    /// Returns the registry of the node's type.
+    #[inline(always)]
+    pub fn checked(&self) -> &'r Checked
+        ensures { result.now.types ≡ self.now.types }
+    {
+        self.checked
+    }
+
     /// Returns the type of the node.
     #[inline(always)]
     pub fn type_id(&self) -> TypeId

@@ -15,3 +15,5 @@ pub mod Whole
 pub mod Widths
 pub mod Positions
 pub mod Rows
+pub mod KeyMaps
+pub mod KeyOrders

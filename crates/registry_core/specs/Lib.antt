@@ -9,3 +9,4 @@ pub mod Rows
 pub mod Spelling
 pub mod Splits
 pub mod Names
+pub mod Keys

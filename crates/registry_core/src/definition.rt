@@ -1,6 +1,8 @@
 //! The definitions of types.
 
+use crate::fields::Fields;
 use crate::items::Items;
+use crate::name::Name;
 use crate::primitive::Primitive;
 use crate::text::Text;
 use crate::type_id::TypeId;
@@ -9,7 +11,7 @@ use crate::type_id::TypeId;
 #[derive(Debug, Drop)]
 pub struct Field {
     /// Its name. A field of a tuple struct has none.
-    pub name: Option<Text>,
+    pub name: Option<Name>,
     /// The type of its values.
     pub ty: TypeId,
     /// The type's name as written in the source, if it was kept.
@@ -21,8 +23,8 @@ pub struct Field {
 /// An arm of a variant type (scale-info, `Variant`).
 #[derive(Debug, Drop)]
 pub struct Arm {
-    pub name: Text,
-    pub fields: Items<Field>,
+    pub name: Name,
+    pub fields: Fields,
     /// The first byte of every value of this arm. Two arms may have the same index.
     pub index: u8,
     /// Its documentation, one text for each line.
@@ -33,7 +35,7 @@ pub struct Arm {
 #[derive(Debug, Drop)]
 pub enum TypeDef {
     /// A value of each field, in order.
-    Composite(Items<Field>),
+    Composite(Fields),
     /// A value of one of the arms.
     Variant(Items<Arm>),
     /// Any number of values of one type.

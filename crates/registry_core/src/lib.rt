@@ -6,9 +6,12 @@
 
 mod definition;
 mod fault;
+mod fields;
 mod items;
+mod keys;
 mod kind;
 pub mod laws;
+mod name;
 mod primitive;
 mod reading;
 mod registry;
@@ -20,8 +23,11 @@ mod writing;
 
 pub use definition::{Arm, Field, TypeDef};
 pub use fault::{RegistryFault, RegistryReason};
+pub use fields::Fields;
 pub use items::Items;
+pub use keys::Keys;
 pub use kind::{IntegerWidth, PrimitiveKind, Signedness};
+pub use name::Name;
 pub use primitive::Primitive;
 pub use reading::{read_metadata, read_registry};
 pub use registry::Registry;

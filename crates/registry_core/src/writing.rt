@@ -1,13 +1,15 @@
 //! Registries, written in their one encoding.
 
-ghost use Rattle.std.specs.Prelude.{◌≡◌, ◌<◌, ◌++◌, OnOk, IfOk};
+ghost use Rattle.std.specs.Prelude.{◌≡◌, ◌<◌, ◌++◌, option_map, OnOk, IfOk};
 ghost use Rattle.registry_core.specs.Fits.{FitsText, FitsTexts, FitsOption, FitsList, FitsParam};
 ghost use Rattle.registry_core.specs.Fits.{FitsField, FitsArm, FitsDefinition, FitsType};
 ghost use Rattle.registry_core.specs.Spelling.{sequence, text, texts, option, type_id, param};
 ghost use Rattle.registry_core.specs.Spelling.{field, arm, definition, type_info, spelling};
 
 use crate::definition::{Arm, Field, TypeDef};
+use crate::fields::Fields;
 use crate::items::Items;
+use crate::name::Name;
 use crate::registry::Registry;
 use crate::text::Text;
 use crate::type_id::TypeId;
@@ -32,9 +34,10 @@ fn put_text(out: &mut Vec<u8>, value: &Text) -> Result<(), AllocError>
 /// # Errors
 ///
 /// Those of [`put_text`].
-fn put_optional_text(out: &mut Vec<u8>, value: &Option<Text>) -> Result<(), AllocError>
-    requires { FitsOption FitsText value.now }
-    ensures { OnOk result (out.new.items ≡ out.old.items ++ option text value.now) }
+fn put_optional_text(out: &mut Vec<u8>, value: Option<&Text>) -> Result<(), AllocError>
+    requires { FitsOption FitsText (option_map (λ t. t.now) value) }
+    ensures { OnOk result
+        (out.new.items ≡ out.old.items ++ option text (option_map (λ t. t.now) value.entry)) }
 {
     match value {
         None => out.push(0)?,
@@ -135,6 +138,16 @@ fn put_params(out: &mut Vec<u8>, values: &Items<Param>) -> Result<(), AllocError
     Ok(())
 }
 
+/// Returns the name as a text, if there is one.
+fn text_of(name: &Option<Name>) -> Option<&Text>
+    ensures { option_map (λ t. t.now) result ≡ name.now }
+{
+    match name {
+        Some(name) => Some(name.as_text()),
+        None => None,
+    }
+}
+
 /// Appends a field.
 ///
 /// # Errors
@@ -144,9 +157,9 @@ fn put_field(out: &mut Vec<u8>, value: &Field) -> Result<(), AllocError>
     requires { FitsField value.now }
     ensures { OnOk result (out.new.items ≡ out.old.items ++ field value.now) }
 {
-    put_optional_text(out, &value.name)?;
+    put_optional_text(out, text_of(&value.name))?;
     put_type_id(out, value.ty)?;
-    put_optional_text(out, &value.type_name)?;
+    put_optional_text(out, value.type_name.as_ref())?;
     put_texts(out, &value.docs)
 }
 
@@ -155,7 +168,7 @@ fn put_field(out: &mut Vec<u8>, value: &Field) -> Result<(), AllocError>
 /// # Errors
 ///
 /// Those of [`put_text`].
-fn put_fields(out: &mut Vec<u8>, values: &Items<Field>) -> Result<(), AllocError>
+fn put_fields(out: &mut Vec<u8>, values: &Fields) -> Result<(), AllocError>
     requires { FitsList FitsField values.now }
     ensures { OnOk result (out.new.items ≡ out.old.items ++ sequence field values.now) }
 {
@@ -175,7 +188,7 @@ fn put_arm(out: &mut Vec<u8>, value: &Arm) -> Result<(), AllocError>
     requires { FitsArm value.now }
     ensures { OnOk result (out.new.items ≡ out.old.items ++ arm value.now) }
 {
-    put_text(out, &value.name)?;
+    put_text(out, value.name.as_text())?;
     put_fields(out, &value.fields)?;
     out.push(value.index)?;
     put_texts(out, &value.docs)

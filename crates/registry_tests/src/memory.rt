@@ -231,6 +231,6 @@ fn a_whole_list_has_no_room_to_spare(rt: HostRuntime) -> Result<(), Fail> {
 #[test]
 fn the_parts_of_a_registry_have_their_sizes(rt: HostRuntime) {
     let sizes = (size_of::<Field>(), size_of::<Arm>(), size_of::<TypeInfo>());
-    same(&rt, sizes, (96, 80, 104));
+    same(&rt, sizes, (104, 120, 136));
     same(&rt, (size_of::<TypeStep>(), size_of::<ArmStep>()), (12, 12));
 }

@@ -357,33 +357,37 @@ impl<A: Allocator + Clone> Output<A> {
         self.escaped_key(name)
     }
 
-    /// Appends the `{` of an object, its first key, and the colon.
+    /// Appends the `{` of an object, its first key, and the colon. It looks for escapes only if
+    /// they are unknown.
     ///
     /// # Errors
     ///
     /// `AllocError` if an allocation fails.
     #[inline(always)]
-    pub fn begin_member(&mut self, name: &str) -> Result<(), AllocError>
+    pub fn begin_member(&mut self, name: &str, escapes: Escapes) -> Result<(), AllocError>
+        requires { OnPlain escapes (escape name.now ≡ name.now) }
         ensures { AddsTokens result self.old self.new (begin_object ∷ key name.now ∷ []) }
     {
-        if is_plain(name) {
+        if is_known_plain(name, escapes) {
             return self.put_plain(Role::Opening, "{\"", name, "\":");
         }
         self.begin_object()?;
         self.escaped_key(name)
     }
 
-    /// Appends the `{` of an object, its first key, the colon, and the `[` of an array.
+    /// Appends the `{` of an object, its first key, the colon, and the `[` of an array. It looks
+    /// for escapes only if they are unknown.
     ///
     /// # Errors
     ///
     /// `AllocError` if an allocation fails.
     #[inline(always)]
-    pub fn begin_array_member(&mut self, name: &str) -> Result<(), AllocError>
+    pub fn begin_array_member(&mut self, name: &str, escapes: Escapes) -> Result<(), AllocError>
+        requires { OnPlain escapes (escape name.now ≡ name.now) }
         ensures { AddsTokens result self.old self.new
             (begin_object ∷ key name.now ∷ begin_array ∷ []) }
     {
-        if is_plain(name) {
+        if is_known_plain(name, escapes) {
             return self.put_plain(Role::Opening, "{\"", name, "\":[");
         }
         self.begin_object()?;

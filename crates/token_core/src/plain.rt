@@ -6,7 +6,7 @@ ghost use Rattle.token_core.specs.Plain.{TellsAsIs, TellsPlain};
 use std::simd::prelude::*;
 
 /// What is known of the escapes that a name needs.
-#[derive(Clone, Copy)]
+#[derive(Clone, Copy, Debug)]
 pub enum Escapes {
     /// It needs none.
     None,

@@ -2,6 +2,7 @@
 //!
 //! A function that reads a part returns it with the bytes after it.
 
+ghost use Rattle.std.specs.Prelude.{◌≡◌};
 ghost use Rattle.registry_core.specs.Gives.{Gives};
 ghost use Rattle.registry_core.specs.Reading.{field_at, fields_at, arm_read_at, arms_read_at};
 ghost use Rattle.registry_core.specs.Reading.{primitive_at, array_at, bit_sequence_at};
@@ -14,9 +15,22 @@ use super::lists::append;
 use super::read_stop::ReadStop;
 use crate::definition::{Arm, Field, TypeDef};
 use crate::fault::RegistryReason;
+use crate::fields::Fields;
 use crate::items::Items;
+use crate::name::Name;
 use crate::primitive::Primitive;
+use crate::text::Text;
 use std::alloc::Global;
+
+/// Returns the text as a name.
+fn named(text: Option<Text>) -> Option<Name>
+    ensures { result ≡ text }
+{
+    match text {
+        Some(text) => Some(Name::from_text(text)),
+        None => None,
+    }
+}
 
 /// Reads a field.
 ///
@@ -28,6 +42,7 @@ fn field_of(alloc: Global, bytes: &[u8]) -> Result<(Field, &[u8]), ReadStop<'_>>
     ensures { Gives (λ x. (x.0, x.1.now)) result (field_at bytes.now) }
 {
     let (name, rest) = optional_text_of(alloc, bytes)?;
+    let name = named(name);
     let (ty, rest) = type_id_of(rest)?;
     let (type_name, rest) = optional_text_of(alloc, rest)?;
     let (docs, rest) = texts_of(alloc, rest)?;
@@ -46,7 +61,7 @@ fn field_of(alloc: Global, bytes: &[u8]) -> Result<(Field, &[u8]), ReadStop<'_>>
 ///
 /// The first error in them, or `Memory` if an allocation fails.
 #[tactic(auto, unfolding(crate::specs::Reading::fields_at))]
-fn fields_of(alloc: Global, bytes: &[u8]) -> Result<(Items<Field>, &[u8]), ReadStop<'_>>
+fn fields_of(alloc: Global, bytes: &[u8]) -> Result<(Fields, &[u8]), ReadStop<'_>>
     ensures { Gives (λ x. (x.0, x.1.now)) result (fields_at bytes.now) }
 {
     let (count, mut rest) = length_of(bytes)?;
@@ -56,7 +71,7 @@ fn fields_of(alloc: Global, bytes: &[u8]) -> Result<(Items<Field>, &[u8]), ReadS
         append(&mut fields, count, field)?;
         rest = after;
     }
-    Ok((Items::from_vec(fields), rest))
+    Ok((Fields::from_vec(alloc, fields)?, rest))
 }
 
 /// Reads an arm.
@@ -69,6 +84,7 @@ fn arm_of(alloc: Global, bytes: &[u8]) -> Result<(Arm, &[u8]), ReadStop<'_>>
     ensures { Gives (λ x. (x.0, x.1.now)) result (arm_read_at bytes.now) }
 {
     let (name, rest) = text_of(alloc, bytes)?;
+    let name = Name::from_text(name);
     let (fields, rest) = fields_of(alloc, rest)?;
     let (index, rest) = byte_of(rest)?;
     let (docs, rest) = texts_of(alloc, rest)?;

@@ -9,7 +9,7 @@ use Rattle.json_core.proofs.printing.json_text.Goals as goal
 pub returns : goal.returns
 returns g c =
     let shown = json_seen c.root.result in
-    let said = c.in_ok-write_node.ensures.adds
+    let said = c.in_ok-write_node.ensures
     ∙ ap (λ w. prints w (json_tokens (outline shown))) c.in_ok-out.ensures in
     c.into_text.ensures ∙ ap (λ w. w.text) said ∙ print-outline shown
     ∙ ap json_text c.root.ensures.same

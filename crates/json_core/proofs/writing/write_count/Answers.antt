@@ -1,9 +1,14 @@
-use Rattle.std.proofs.Common.{◌∷◌, [], codes, ap, ◌∙◌, decimal}
+use Rattle.std.proofs.Common.{◌∷◌, [], codes, ap, ◌∙◌, decimal, refl}
 use Rattle.std.proofs.lemmas.Result.{on_ok_weaker}
+use Rattle.json.specs.Print.{escape_byte}
 use Rattle.json.specs.Token.{number}
 use Rattle.token_core.specs.Tokens.{prints}
 use Rattle.json_core.proofs.Turns.{count_whole}
 use Rattle.json_core.proofs.writing.write_count.Goals as goal
+
+pub begin_member-requires : goal.begin_member-requires
+unfolding escape_byte
+begin_member-requires g c = refl
 
 pub returns : goal.returns
 returns g c = on_ok_weaker c.end_object.result (λ e. count_whole c.args.out.now
