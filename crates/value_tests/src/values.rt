@@ -69,6 +69,7 @@ fn a_value_lends_its_registry(rt: HostRuntime) -> Result<(), Fail> {
     same(&rt, (lent.registry().types().len(), lent.widest()), (3, 3));
     same(&rt, lent.class(TypeId(1)), Some(Class::Empty));
     same(&rt, lent.class(TypeId(2)), Some(Class::Sized));
+    same(&rt, value.root().checked().widest(), 3);
     Ok(())
 }
 
