@@ -44,10 +44,10 @@ lent_positions (e ∷ es) = ap (λ l. e.1 ∷ l) (lent_positions es)
 
 -- one field of the fields
 next_field : (fs : List Field) (p : ℕ) (f : Field) (n : List ℕ) (es : Entries) →
-    drop p fs ≡ f ∷ drop (p + 1) fs → f.name ≡ Some n → order_from (drop p fs) p es
+    p < length fs → f ≡ get_or fs p f → f.name ≡ Some n → order_from (drop p fs) p es
     ≡ cond (is_there n es) None (order_from (drop (p + 1) fs) (p + 1) (insert n p es))
-next_field fs p f n es e is =
-    ap (λ gs. order_from gs p es) e
+next_field fs p f n es h e is =
+    ap (λ gs. order_from gs p es) (drop_more fs p f h ∙ ap (λ g. g ∷ drop (p + 1) fs) (sym e))
     ∙ ap (λ o. option_and_then (λ m. cond (is_there m es) None
     (order_from (drop (p + 1) fs) (suc p) (insert m p es))) o) is
     ∙ ap (λ q. cond (is_there n es) None (order_from (drop (p + 1) fs) q (insert n p es)))
@@ -55,18 +55,18 @@ next_field fs p f n es e is =
 
 -- with a name that is there already no order is found
 pub found_here : (fs : List Field) (p : ℕ) (f : Field) (n : List ℕ) (es : Entries) →
-    drop p fs ≡ f ∷ drop (p + 1) fs → f.name ≡ Some n → is_there n es ≡ true →
+    p < length fs → f ≡ get_or fs p f → f.name ≡ Some n → is_there n es ≡ true →
     order_from (drop p fs) p es ≡ None
-found_here fs p f n es e is h = next_field fs p f n es e is
-    ∙ ap (λ b. cond b None (order_from (drop (p + 1) fs) (p + 1) (insert n p es))) h
+found_here fs p f n es h e is there = next_field fs p f n es h e is
+    ∙ ap (λ b. cond b None (order_from (drop (p + 1) fs) (p + 1) (insert n p es))) there
 
 -- a name that is new is inserted
 pub new_here : (fs : List Field) (p : ℕ) (f : Field) (n : List ℕ) (es new : Entries) →
-    drop p fs ≡ f ∷ drop (p + 1) fs → f.name ≡ Some n → is_there n es ≡ false →
+    p < length fs → f ≡ get_or fs p f → f.name ≡ Some n → is_there n es ≡ false →
     new ≡ insert n p es →
     order_from (drop p fs) p es ≡ order_from (drop (p + 1) fs) (p + 1) new
-new_here fs p f n es new e is h i = next_field fs p f n es e is
-    ∙ ap (λ b. cond b None (order_from (drop (p + 1) fs) (p + 1) (insert n p es))) h
+new_here fs p f n es new h e is there i = next_field fs p f n es h e is
+    ∙ ap (λ b. cond b None (order_from (drop (p + 1) fs) (p + 1) (insert n p es))) there
     ∙ ap (order_from (drop (p + 1) fs) (p + 1)) (sym i)
 
 -- ---- names in a list

@@ -2,8 +2,7 @@
 
 ghost use Rattle.std.specs.Prelude.{◌≡◌, true};
 ghost use Rattle.std.specs.Str.{is_utf8};
-ghost use Rattle.json.specs.Print.{escape};
-ghost use Rattle.token_core.specs.Plain.{OnPlain};
+ghost use Rattle.token_core.specs.Plain.{AreEscapes};
 
 use crate::text::Text;
 use std::marker::Model;
@@ -18,15 +17,14 @@ pub struct Name {
 }
 
 impl Model for Name {
-    ghost use Rattle.std.specs.Prelude.{◌≡◌, List, ℕ};
-    ghost use Rattle.json.specs.Print.{escape};
-    ghost use Rattle.token_core.specs.Plain.{OnPlain};
+    ghost use Rattle.std.specs.Prelude.{List, ℕ};
+    ghost use Rattle.token_core.specs.Plain.{AreEscapes};
 
     ghost Value = { List ℕ };
 
     ghost view = { λ n. n.text };
 
-    ghost invariant = { λ n. OnPlain n.escapes (escape n.text ≡ n.text) };
+    ghost invariant = { λ n. AreEscapes n.escapes n.text };
 }
 
 impl Name {
@@ -37,7 +35,7 @@ impl Name {
         let escapes = if is_plain(text.as_str()) {
             Escapes::None
         } else {
-            Escapes::Unknown
+            Escapes::Needed
         };
         Name { text, escapes }
     }
@@ -58,10 +56,10 @@ impl Name {
         self.text.as_str()
     }
 
-    /// Returns what is known of the escapes that the name needs in JSON (RFC 8259, "Strings").
+    /// Returns whether the name needs escapes in JSON (RFC 8259, "Strings").
     #[inline(always)]
     pub fn escapes(&self) -> Escapes
-        ensures { OnPlain result (escape self.now ≡ self.now) }
+        ensures { AreEscapes result self.now }
     {
         self.escapes
     }

@@ -5,10 +5,10 @@ use Rattle.json.specs.Written.{PlainBetween}
 use Rattle.token_core.specs.declared.plain.Escapes.{Escapes}
 use Rattle.token_core.specs.declared.plain.Escapes.TheVariants as escapes
 
--- P holds, if it is known that no escape is needed
-abbrev pub OnPlain : Escapes → Type 0 → Type 0
-OnPlain escapes.None P = P
-OnPlain escapes.Unknown P = Unit {0}
+-- such escapes the text needs
+abbrev pub AreEscapes : Escapes → List ℕ → Type 0
+AreEscapes escapes.None d = escape d ≡ d
+AreEscapes escapes.Needed d = escape d ≢ d
 
 -- the answer is whether no byte from i up to j needs an escape
 abbrev pub TellsPlain : Bool → List ℕ → ℕ → ℕ → Type 0

@@ -2,13 +2,11 @@
 
 ghost use Rattle.std.specs.Prelude.{◌≡◌, ◌+◌, ◌≤◌, ◌++◌, [], ◌∷◌, false, codes, decimal};
 ghost use Rattle.std.specs.Prelude.{length, take, string_bytes, OnOk, IfOk};
-ghost use Rattle.std.specs.Bool.{OnTrue};
 ghost use Rattle.std.specs.Fmt.{signed_decimal};
 ghost use Rattle.hex.specs.Hex.{encode_lower};
 ghost use Rattle.json.specs.Token.{begin_object, end_object, begin_array, end_array, key, string};
 ghost use Rattle.json.specs.Token.{number, boolean, null};
-ghost use Rattle.json.specs.Print.{escape};
-ghost use Rattle.token_core.specs.Plain.{OnPlain};
+ghost use Rattle.token_core.specs.Plain.{AreEscapes};
 
 use crate::places::{
     place_between, place_byte, place_bytes, place_comma, place_decimal, place_long,
@@ -98,18 +96,6 @@ fn grow<A: Allocator>(bytes: &mut Vec<u8, A>, more: usize) -> Result<(), AllocEr
         missing -= step;
     }
     Ok(())
-}
-
-/// Returns whether the name needs no escape, and looks at it only if that is unknown.
-#[inline(always)]
-fn is_known_plain(name: &str, escapes: Escapes) -> bool
-    requires { OnPlain escapes (escape name.now ≡ name.now) }
-    ensures { OnTrue result (escape name.now ≡ name.now) }
-{
-    match escapes {
-        Escapes::None => true,
-        Escapes::Unknown => is_plain(name),
-    }
 }
 
 /// How a token stands to the values around it.
@@ -341,53 +327,53 @@ impl<A: Allocator + Clone> Output<A> {
         self.put_plain(Role::Value, "\"", buffer.format(n), "\"")
     }
 
-    /// Appends a key and its colon. It looks for escapes only if they are unknown.
+    /// Appends a key, of which the caller knows whether it needs an escape, and its colon.
     ///
     /// # Errors
     ///
     /// `AllocError` if an allocation fails.
     #[inline(always)]
     pub fn key(&mut self, name: &str, escapes: Escapes) -> Result<(), AllocError>
-        requires { OnPlain escapes (escape name.now ≡ name.now) }
+        requires { AreEscapes escapes name.now }
         ensures { AddsTokens result self.old self.new (key name.now ∷ []) }
     {
-        if is_known_plain(name, escapes) {
-            return self.put_plain(Role::Opening, "\"", name, "\":");
+        match escapes {
+            Escapes::None => self.put_plain(Role::Opening, "\"", name, "\":"),
+            Escapes::Needed => self.escaped_key(name),
         }
-        self.escaped_key(name)
     }
 
-    /// Appends the `{` of an object, its first key, and the colon. It looks for escapes only if
-    /// they are unknown.
+    /// Appends the `{` of an object, its first key, of which the caller knows whether it needs an
+    /// escape, and the colon.
     ///
     /// # Errors
     ///
     /// `AllocError` if an allocation fails.
     #[inline(always)]
     pub fn begin_member(&mut self, name: &str, escapes: Escapes) -> Result<(), AllocError>
-        requires { OnPlain escapes (escape name.now ≡ name.now) }
+        requires { AreEscapes escapes name.now }
         ensures { AddsTokens result self.old self.new (begin_object ∷ key name.now ∷ []) }
     {
-        if is_known_plain(name, escapes) {
+        if let Escapes::None = escapes {
             return self.put_plain(Role::Opening, "{\"", name, "\":");
         }
         self.begin_object()?;
         self.escaped_key(name)
     }
 
-    /// Appends the `{` of an object, its first key, the colon, and the `[` of an array. It looks
-    /// for escapes only if they are unknown.
+    /// Appends the `{` of an object, its first key, of which the caller knows whether it needs an
+    /// escape, the colon, and the `[` of an array.
     ///
     /// # Errors
     ///
     /// `AllocError` if an allocation fails.
     #[inline(always)]
     pub fn begin_array_member(&mut self, name: &str, escapes: Escapes) -> Result<(), AllocError>
-        requires { OnPlain escapes (escape name.now ≡ name.now) }
+        requires { AreEscapes escapes name.now }
         ensures { AddsTokens result self.old self.new
             (begin_object ∷ key name.now ∷ begin_array ∷ []) }
     {
-        if is_known_plain(name, escapes) {
+        if let Escapes::None = escapes {
             return self.put_plain(Role::Opening, "{\"", name, "\":[");
         }
         self.begin_object()?;

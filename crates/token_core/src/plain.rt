@@ -5,13 +5,13 @@ ghost use Rattle.token_core.specs.Plain.{TellsAsIs, TellsPlain};
 
 use std::simd::prelude::*;
 
-/// What is known of the escapes that a name needs.
+/// Whether a text needs escapes between quotes (RFC 8259, "Strings").
 #[derive(Clone, Copy, Debug)]
 pub enum Escapes {
-    /// It needs none.
+    /// It needs none: it stands there as it is.
     None,
-    /// It may need some.
-    Unknown,
+    /// It needs one at least.
+    Needed,
 }
 
 /// Returns whether none of 16 bytes needs an escape.

@@ -1,5 +1,3 @@
-use Rattle.std.proofs.Common.{◌≡◌, length, subst}
-use Rattle.std.specs.List.{range_with_len}
 use Rattle.registry_core.proofs.KeyOrders.{counted_keys}
 use Rattle.registry_core.proofs.keys.keys_in.Goals as goal
 

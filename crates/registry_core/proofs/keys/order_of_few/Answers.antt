@@ -1,6 +1,6 @@
-use Rattle.std.proofs.Common.{◌≡◌, ◌∷◌, ◌++◌, ◌+◌, drop, rules, arith, ap, sym, ◌∙◌}
+use Rattle.std.proofs.Common.{◌≡◌, ◌++◌, ◌+◌, drop, rules, arith, ap, sym, ◌∙◌}
 use Rattle.std.proofs.Common.{option_map, map, [], Some, false, length}
-use Rattle.std.proofs.lemmas.List.{drop_more, append-nil}
+use Rattle.std.proofs.lemmas.List.{append-nil}
 use Rattle.std.proofs.Math.ListN.{drop_of_length-le}
 use Rattle.registry_core.specs.Keys.{order_from, is_there, place_among, lent_entries, positions_of}
 use Rattle.registry_core.proofs.KeyOrders.{new_here, put_in_list, place_within, Lent}
@@ -20,19 +20,16 @@ insert-requires c =
 
 pub fields-preserved : goal.fields-preserved
 fields-preserved c =
-    let fs = c.args.fields.now in
     let p = c.fields.position in
-    let f = c.index-fields-position.result in
     let n = c.as_str-name.result in
     let old = c.fields.names.items in
-    let here : drop p fs ≡ f ∷ drop (p + 1) fs = drop_more fs p f (omega arith)
-    ∙ ap (λ y. y ∷ drop (p + 1) fs) (sym c.index-fields-position.is) in
     let new : is_there n.now (lent_entries old) ≡ false =
     ap (λ l. is_there n.now (lent_entries l)) (sym c.as_slice.ensures.value)
     ∙ sym c.is_among.ensures ∙ c.if-is_among.false in
     let place = c.place_among-place.ensures
     ∙ ap (λ l. place_among n.now (lent_entries l)) c.as_slice-in-fields.ensures.value in (
-      c.fields.invariant.0 ∙ new_here fs p f n.now (lent_entries old) _ here (search rules) new
+      c.fields.invariant.0 ∙ new_here c.args.fields.now p c.index-fields-position.result n.now
+          (lent_entries old) _ (omega arith) c.index-fields-position.is (search rules) new
           (put_in_list n p c.place_among-place.result old c.insert.new.self.items new place
           c.insert.ensures.items),
       c.insert.ensures.len ∙ ap (λ k. k + 1) c.fields.invariant.1,

@@ -1,6 +1,6 @@
-use Rattle.std.proofs.Common.{◌≡◌, ◌∷◌, ◌++◌, ◌+◌, drop, rules, arith, ap, sym, ◌∙◌, option_map}
+use Rattle.std.proofs.Common.{◌≡◌, ◌++◌, drop, rules, arith, ap, sym, ◌∙◌, option_map}
 use Rattle.std.proofs.Common.{map, [], Some}
-use Rattle.std.proofs.lemmas.List.{drop_more, append-nil}
+use Rattle.std.proofs.lemmas.List.{append-nil}
 use Rattle.std.proofs.Math.ListN.{drop_of_length-le}
 use Rattle.registry_core.specs.Keys.{order_from, lent_entries, positions_of}
 use Rattle.registry_core.proofs.KeyOrders.{found_here, new_here, Lent, lent_positions}
@@ -9,27 +9,20 @@ use Rattle.registry_core.proofs.keys.order_of_many.Goals as goal
 
 pub returns-then-is_some : goal.returns-then-is_some
 returns-then-is_some c =
-    let fs = c.args.fields.now in
-    let p = c.fields.position in
-    let f = c.index-fields-position.result in
     let old = c.fields.positions.entries in
-    let here : drop p fs ≡ f ∷ drop (p + 1) fs = drop_more fs p f (omega arith)
-    ∙ ap (λ y. y ∷ drop (p + 1) fs) (sym c.index-fields-position.is) in
     sym (ap (option_map positions_of) (c.fields.invariant
-    ∙ found_here fs p f c.as_str.result.now (lent_entries old) here (search rules)
+    ∙ found_here c.args.fields.now c.fields.position c.index-fields-position.result
+    c.as_str.result.now (lent_entries old) (omega arith) c.index-fields-position.is (search rules)
     (sym (there_in_map c.as_str.result old c.in_ok-insert.field-0 c.in_ok-insert.ensures.old)
     ∙ sym c.is_some.ensures ∙ c.if-is_some.true)))
 
 pub fields-preserved : goal.fields-preserved
 fields-preserved c =
-    let fs = c.args.fields.now in
     let p = c.fields.position in
-    let f = c.index-fields-position.result in
     let old = c.fields.positions.entries in
-    let here : drop p fs ≡ f ∷ drop (p + 1) fs = drop_more fs p f (omega arith)
-    ∙ ap (λ y. y ∷ drop (p + 1) fs) (sym c.index-fields-position.is) in
     c.fields.invariant
-    ∙ new_here fs p f c.as_str.result.now (lent_entries old) _ here (search rules)
+    ∙ new_here c.args.fields.now p c.index-fields-position.result c.as_str.result.now
+    (lent_entries old) _ (omega arith) c.index-fields-position.is (search rules)
     (sym (there_in_map c.as_str.result old c.in_ok-insert.field-0 c.in_ok-insert.ensures.old)
     ∙ sym c.is_some.ensures ∙ c.if-is_some.false)
     (put_in_map c.as_str.result p old c.insert.new.self.entries c.in_ok-insert.ensures.entries)

@@ -5,9 +5,9 @@ use Rattle.token_core.specs.Tokens.{prints}
 use Rattle.token_core.proofs.Outputs.{first_key, prints_again}
 use Rattle.token_core.proofs.output.Output.begin_member.Goals as goal
 
-pub returns-then-is_known_plain : goal.returns-then-is_known_plain
-returns-then-is_known_plain g c = on_ok_weaker c.put_plain.result
-    (λ e. e ∙ first_key c.args.self.now c.args.name.now c.if-is_known_plain.ensures)
+pub returns-in-None : goal.returns-in-None
+returns-in-None g c = on_ok_weaker c.put_plain.result
+    (λ e. e ∙ first_key c.args.self.now c.args.name.now (rw c.in-None.is at c.requires))
     c.put_plain.ensures
 
 pub returns : goal.returns
