@@ -1,25 +1,23 @@
 -- What is left of the open definition as its references are read and its arms begun.
-use Rattle.std.proofs.Common.{◌≡◌, ℕ, zero, suc, ◌+◌, ◌<◌, ◌^◌, List, [], ◌∷◌, ◌++◌, length, map}
+use Rattle.std.proofs.Common.{◌≡◌, ℕ, zero, suc, ◌+◌, ◌<◌, ◌^◌, List, [], ◌∷◌, ◌++◌, length}
 use Rattle.std.proofs.Common.{drop}
-use Rattle.std.proofs.Common.{flat_map, Option, Some, None, refl, sym, ap, ◌∙◌, arith}
+use Rattle.std.proofs.Common.{Option, Some, None, refl, sym, ap, ◌∙◌, arith}
 use Rattle.std.specs.Prelude.{slice_get, option_map}
 use Rattle.std.specs.List.{AllByRecursion}
-use Rattle.std.proofs.lemmas.List.{append-nil, length-map}
+use Rattle.std.proofs.lemmas.List.{append-nil}
 use Rattle.std.proofs.lemmas.Option.{slice_get_within}
-use Rattle.registry_core.specs.Fits.{FitsRegistry, FitsType, FitsDefinition, FitsArm}
+use Rattle.registry_core.specs.Fits.{FitsRegistry, FitsType, FitsDefinition}
 use Rattle.registry_core.specs.declared.definition.Arm.{Arm}
-use Rattle.registry_core.specs.declared.definition.Field.{Field}
 use Rattle.registry_core.specs.declared.definition.TypeDef.{TypeDef}
 use Rattle.registry_core.specs.declared.definition.TypeDef.TheVariants as Def
-use Rattle.registry_core.specs.declared.type_id.TypeId.{TypeId}
 use Rattle.registry_core.specs.declared.type_info.TypeInfo.{TypeInfo}
 use Rattle.graph_core.specs.declared.graph.Graph.{Graph}
-use Rattle.graph_core.specs.Types.{shape, field_types, ids}
-use Rattle.graph_core.specs.Cursors.{last_of, fields_open, open_references, arms_of, current}
-use Rattle.graph_core.specs.Cursors.{parts_after, arms_after, parts_left, arms_left, left}
-use Rattle.graph_core.specs.Cursors.{reference_after, arm_after, next_reference, next_arm}
+use Rattle.graph_core.specs.Types.{field_types}
+use Rattle.graph_core.specs.Cursors.{last_of, arms_of, current}
+use Rattle.graph_core.specs.Cursors.{parts_after, arms_after, parts_left, arms_left}
+use Rattle.graph_core.specs.Cursors.{arm_after, next_arm}
 use Rattle.graph_core.specs.Cursors.{arm_references, arm_outline}
-use Rattle.graph_core.specs.Graphs.{refs, KeepsLists, IsReadNext, IsArmNext, BeginsArm}
+use Rattle.graph_core.specs.Graphs.{refs, KeepsLists, IsArmNext, BeginsArm}
 use Rattle.graph_core.proofs.Linked.{on_none}
 
 -- ---- places of a list

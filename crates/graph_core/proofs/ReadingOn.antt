@@ -1,23 +1,23 @@
 -- Reading on for the first reference that is no position.
-use Rattle.std.proofs.Common.{◌≡◌, ℕ, zero, suc, ◌+◌, ◌-◌, ◌<◌, ◌≤◌, Bool, true, false, cond, List}
+use Rattle.std.proofs.Common.{◌≡◌, ℕ, zero, suc, ◌-◌, ◌<◌, ◌≤◌, true, false, List}
 use Rattle.std.proofs.Common.{[]}
-use Rattle.std.proofs.Common.{◌∷◌, ◌++◌, length, take, drop, Option, Some, None, refl, sym, ap}
+use Rattle.std.proofs.Common.{◌∷◌, ◌++◌, length, drop, Option, Some, None, refl, sym, ap}
 use Rattle.std.proofs.Common.{subst}
 use Rattle.std.proofs.Common.{◌∙◌, arith}
-use Rattle.std.specs.Prelude.{nat_lt, is_some}
-use Rattle.std.proofs.lemmas.Bool.{lt-ltb, le-ltb}
-use Rattle.std.proofs.lemmas.List.{append_assoc, append-nil, length-append}
+use Rattle.std.specs.Prelude.{is_some}
+use Rattle.std.proofs.lemmas.Bool.{lt-ltb}
+use Rattle.std.proofs.lemmas.List.{append_assoc}
 use Rattle.registry_core.specs.declared.definition.TypeDef.{TypeDef}
 use Rattle.registry_core.specs.declared.type_info.TypeInfo.{TypeInfo}
 use Rattle.graph_core.specs.declared.graph.Graph.{Graph}
 use Rattle.graph_core.specs.Types.{shape}
 use Rattle.graph_core.specs.Cursors.{left, parts_left, arms_left, arm_references}
-use Rattle.graph_core.specs.Graphs.{ReadsOn, IsReadNext, IsArmNext, BeginsArm, IsOpened}
+use Rattle.graph_core.specs.Graphs.{ReadsOn, IsReadNext, BeginsArm, IsOpened}
 use Rattle.graph_core.specs.References.{AreKnown, first_unknown, unknown_from, first_fault}
-use Rattle.graph_core.specs.Stops.{IsUnderWay, IsReading, HasFewLooksUntil}
+use Rattle.graph_core.specs.Stops.{IsUnderWay, HasFewLooksUntil}
 use Rattle.graph_core.specs.Unknown.{FindsUnknown, FindsUnknownPart}
-use Rattle.graph_core.proofs.FirstFault.{known_none, none_known}
-use Rattle.graph_core.proofs.Linked.{on_none, on_more}
+use Rattle.graph_core.proofs.FirstFault.{none_known}
+use Rattle.graph_core.proofs.Linked.{on_more}
 use Rattle.graph_core.proofs.Stopped.{all_front}
 use Rattle.graph_core.proofs.UnderWay.{reading_on, way_on, way_opened, few_looks, fault_from}
 use Rattle.graph_core.proofs.Unknown.{first_unknown-append_none, first_unknown-append_some}

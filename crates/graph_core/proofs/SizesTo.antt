@@ -11,7 +11,7 @@ use Rattle.graph_core.specs.declared.graph.Graph.{Graph}
 use Rattle.graph_core.specs.Types.{shape}
 use Rattle.graph_core.specs.References.{references}
 use Rattle.graph_core.specs.Counts.{times}
-use Rattle.graph_core.specs.Graphs.{IsUnread, IsGlanced, IsMeasured}
+use Rattle.graph_core.specs.Graphs.{IsGlanced}
 use Rattle.graph_core.specs.Sizes.{arm_count, arm_counts, AreSizesOf}
 use Rattle.graph_core.specs.Widths.{width, widest}
 use Rattle.graph_core.specs.declared.sizes.Sizes.{Sizes}

@@ -1,6 +1,6 @@
 -- Where the reading of references stops: the first that is no position.
-use Rattle.std.proofs.Common.{◌≡◌, ℕ, ◌<◌, ◌≤◌, List, [], ◌∷◌, ◌++◌, length, map, Result, Ok, Err}
-use Rattle.std.proofs.Common.{Some, sym, ap, subst, ◌∙◌}
+use Rattle.std.proofs.Common.{◌≡◌, ℕ, ◌<◌, List, [], ◌∷◌, ◌++◌, length, map, Result, Ok, Err}
+use Rattle.std.proofs.Common.{sym, ap, subst, ◌∙◌}
 use Rattle.std.specs.Prelude.{IfErr}
 use Rattle.std.specs.Result.{IsErrAnd}
 use Rattle.std.specs.List.{AllByRecursion}
@@ -10,9 +10,9 @@ use Rattle.graph_core.specs.declared.link_stop.LinkStop.{LinkStop}
 use Rattle.graph_core.specs.declared.link_stop.LinkStop.TheVariants as stop
 use Rattle.graph_core.specs.References.{AreKnown}
 use Rattle.graph_core.specs.Cursors.{parts_left}
-use Rattle.graph_core.specs.Graphs.{refs, ReadsReferences, IsReadNext}
+use Rattle.graph_core.specs.Graphs.{refs, ReadsReferences}
 use Rattle.graph_core.specs.Stops.{StopsLinking, StopsAt, StopsBetween}
-use Rattle.graph_core.proofs.Linked.{ReadsParts, on_none, on_more, on_kept}
+use Rattle.graph_core.proofs.Linked.{ReadsParts, on_more}
 
 -- what is handed on is why linking stopped
 pub stop_kept : {X : Type 0} (r : Result X LinkStop) (o : LinkStop) (P : LinkStop → Type 0) →

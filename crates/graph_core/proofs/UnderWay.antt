@@ -1,12 +1,11 @@
 -- The second look at the types, in their order, up to the first reference that is no position.
 use Rattle.std.proofs.Common.{◌≡◌, ℕ, zero, suc, ◌+◌, ◌-◌, ◌<◌, ◌≤◌, Bool, true, false, cond, List}
 use Rattle.std.proofs.Common.{[]}
-use Rattle.std.proofs.Common.{◌∷◌, ◌++◌, length, take, drop, flat_map, reverse, Option, Some, None}
+use Rattle.std.proofs.Common.{◌∷◌, ◌++◌, length, take, drop, flat_map, reverse, Some, None}
 use Rattle.std.proofs.Common.{refl, sym, ap, subst, ◌∙◌, arith}
 use Rattle.std.specs.Prelude.{◌==◌}
 use Rattle.std.proofs.lemmas.Bool.{eqb-true}
 use Rattle.std.proofs.lemmas.List.{append_assoc, append-nil}
-use Rattle.std.proofs.lemmas.Grind.{flat_map-append}
 use Rattle.registry_core.specs.declared.definition.TypeDef.{TypeDef}
 use Rattle.registry_core.specs.declared.definition.TypeDef.TheVariants as Def
 use Rattle.registry_core.specs.declared.type_info.TypeInfo.{TypeInfo}
@@ -18,13 +17,13 @@ use Rattle.graph_core.specs.Counts.{times}
 use Rattle.graph_core.specs.Cursors.{left, open_references, arm_references, arms_of, current}
 use Rattle.graph_core.specs.Cursors.{open_definition, parts_left, arms_left}
 use Rattle.graph_core.specs.Outlines.{outline, IsTold}
-use Rattle.graph_core.specs.Graphs.{refs, ReadsOn, IsOpened, IsMeasured, Waits}
+use Rattle.graph_core.specs.Graphs.{refs, ReadsOn, IsOpened}
 use Rattle.graph_core.specs.References.{references, AreKnown, first_unknown, unknown_from}
 use Rattle.graph_core.specs.References.{first_fault}
 use Rattle.graph_core.specs.Stops.{IsReadTo, IsReading, IsUnderWay, HasFewLooksUntil, fault_in}
 use Rattle.graph_core.specs.Stops.{StopsLinking, IsRefusedFor}
 use Rattle.graph_core.proofs.Arms.{type_has, type_lacks}
-use Rattle.graph_core.proofs.FirstFault.{known_none, none_known, split_some}
+use Rattle.graph_core.proofs.FirstFault.{known_none, split_some}
 use Rattle.graph_core.proofs.Stopped.{all_front, all_joined}
 use Rattle.graph_core.proofs.Unknown.{first_unknown-append_none}
 

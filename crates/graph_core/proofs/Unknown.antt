@@ -1,11 +1,7 @@
 -- Unknown references of parts one after the other.
-use Rattle.std.proofs.Common.{◌≡◌, ℕ, ◌+◌, ◌<◌, Bool, true, false, cond, List, [], ◌∷◌, ◌++◌}
-use Rattle.std.proofs.Common.{length, get_or, drop, flat_map, Option, Some, None, refl, sym, ap}
-use Rattle.std.proofs.Common.{◌∙◌}
+use Rattle.std.proofs.Common.{◌≡◌, ℕ, Bool, true, false, cond, List, [], ◌∷◌, ◌++◌}
+use Rattle.std.proofs.Common.{Some, None, refl}
 use Rattle.std.specs.Prelude.{nat_lt}
-use Rattle.std.proofs.lemmas.List.{at_drop_more}
-use Rattle.registry_core.specs.declared.definition.Arm.{Arm}
-use Rattle.graph_core.specs.Types.{field_types}
 use Rattle.graph_core.specs.References.{first_unknown}
 
 -- where the first references all are positions, the first unknown one is after them

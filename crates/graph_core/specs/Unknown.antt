@@ -3,7 +3,7 @@ use Rattle.std.specs.Prelude.{◌≡◌, ℕ, List, [], ◌++◌, length, Option
 use Rattle.graph_core.specs.declared.graph.Graph.{Graph}
 use Rattle.graph_core.specs.Cursors.{left, parts_left, arms_left}
 use Rattle.graph_core.specs.Graphs.{ReadsOn}
-use Rattle.graph_core.specs.References.{AreKnown, first_unknown}
+use Rattle.graph_core.specs.References.{first_unknown}
 
 -- u is the first unknown reference among the open ones; if there is none, all of them were read
 pub record FindsUnknownPart (a b : Graph) (u : Option ℕ) : Type 0 where

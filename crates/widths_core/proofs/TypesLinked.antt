@@ -5,7 +5,6 @@ use Rattle.std.proofs.Common.{◌∙◌}
 use Rattle.std.proofs.Common.{arith}
 use Rattle.std.specs.Prelude.{◌==◌}
 use Rattle.std.proofs.lemmas.List.{append_assoc, append-nil, map-append, length-map, length-append}
-use Rattle.std.proofs.lemmas.List.{take_all}
 use Rattle.std.proofs.lemmas.Grind.{flat_map-append}
 use Rattle.registry_core.specs.declared.definition.TypeDef.{TypeDef}
 use Rattle.registry_core.specs.declared.type_info.TypeInfo.{TypeInfo}
@@ -15,13 +14,13 @@ use Rattle.graph_core.specs.Types.{shape}
 use Rattle.graph_core.specs.Counts.{times}
 use Rattle.graph_core.specs.Cursors.{left}
 use Rattle.widths_core.specs.Rules.{Rule, rules_of, rules_from, counter_of, all_parts, numbers_from}
-use Rattle.graph_core.specs.Graphs.{refs, numbers, AreSeen, IsLinked, IsNew, IsOpened}
+use Rattle.graph_core.specs.Graphs.{refs, numbers, IsLinked, IsOpened}
 use Rattle.graph_core.specs.References.{AreKnown}
 use Rattle.graph_core.specs.Stops.{IsUnderWay}
 use Rattle.graph_core.proofs.Linked.{no_elements}
 use Rattle.graph_core.proofs.Stopped.{all_front}
 use Rattle.graph_core.proofs.UnderWay.{way_opened, way_on}
-use Rattle.widths_core.specs.Linking.{AddsRules, AreTypesLinked}
+use Rattle.widths_core.specs.Linking.{AddsRules}
 use Rattle.widths_core.proofs.Adding.{numbers_from-append}
 use Rattle.widths_core.proofs.PartsOf.{parts_of}
 

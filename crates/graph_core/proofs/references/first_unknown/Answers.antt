@@ -1,5 +1,4 @@
-use Rattle.std.proofs.Common.{◌≡◌, ◌≤◌, length, Some, ◌+◌, ◌-◌, refl, sym, ap, ◌∙◌, arith}
-use Rattle.std.specs.Prelude.{ℕ}
+use Rattle.std.proofs.Common.{◌≡◌, length, Some, ◌+◌, ◌-◌, refl, sym, ap, ◌∙◌, arith}
 use Rattle.graph_core.specs.Types.{shape}
 use Rattle.graph_core.proofs.ReadingOn.{ahead_found, ahead_passed, ahead_opened, ahead_none}
 use Rattle.graph_core.proofs.references.first_unknown.Goals as goal

@@ -1,4 +1,4 @@
-use Rattle.std.proofs.Common.{◌≡◌, ◌<◌, ◌^◌, Some, None, refl, sym, ◌∙◌, rules, arith}
+use Rattle.std.proofs.Common.{◌≡◌, Some, None, refl, sym, ◌∙◌, rules, arith}
 use Rattle.graph_core.specs.Cursors.{next_arm, arm_outline}
 use Rattle.graph_core.proofs.Cursors.{arm_none, arm_begun, arm_bound}
 use Rattle.graph_core.proofs.graph.Graph.next_arm.Goals as goal
