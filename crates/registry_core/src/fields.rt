@@ -10,6 +10,9 @@ use std::marker::Model;
 
 /// The fields of a composite type or of an arm: a `Vec` that contracts see as its elements, with
 /// the order of their names.
+///
+/// The order is found once, when the registry is read. It takes 32 bytes, and 4 a field if the
+/// names are out of order.
 #[derive(Debug, Drop)]
 pub struct Fields {
     fields: Vec<Field>,

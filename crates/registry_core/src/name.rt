@@ -9,7 +9,7 @@ use std::marker::Model;
 use token_core::{Escapes, is_plain};
 
 /// The name of a field or of an arm: a [`Text`] that contracts see as its bytes, which are UTF-8,
-/// and whether it needs an escape in JSON.
+/// and whether it needs an escape in JSON, which takes 8 bytes.
 #[derive(Debug, Drop)]
 pub struct Name {
     text: Text,

@@ -31,7 +31,8 @@ use std::marker::Model;
 ///
 /// The table takes 12 bytes a type, 4 a reference and 13 an arm, including shadowed ones. While it
 /// is made, table and lists take at most 19 bytes a type, 12 a reference and 13 an arm, and
-/// counters and the order in which types settle take 36 bytes a type and 16 an arm.
+/// counters and the order in which types settle take 36 bytes a type and 16 an arm. The order of
+/// names is kept in the registry ([`Fields`](registry_core::Fields)).
 #[derive(Debug, Drop)]
 pub struct Checked {
     /// The registry, with the looks taken at it.
