@@ -27,15 +27,15 @@ pub enum PrintFault {
 /// Returns a value's JSON as text: `serde_json`'s compact text of [`to_json`](crate::to_json), with
 /// no line end.
 ///
-/// It allocates the text from `text_alloc` and its clones. The text's capacity is at most twice its
-/// length, and above a mebibyte at most a quarter more. Besides, it allocates as much as the
-/// longest text with an escape from them.
+/// It allocates the text from `text_alloc` and its clones. The text's capacity is at most 256 bytes
+/// more than twice its length. It doubles, and from a mebibyte on it grows by a quarter. Besides,
+/// it allocates as much as the longest text with an escape from them.
 ///
 /// It allocates 40 bytes for each child of an open object with more than eight fields whose names
 /// are out of order, from `alloc`.
 ///
 /// It takes time in proportion to the text. The calls nest as deep as the value, at most 1025
-/// levels, which take some 650 KiB of stack.
+/// levels, which take some 420 KiB of stack.
 ///
 /// # Errors
 ///

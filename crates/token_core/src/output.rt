@@ -29,9 +29,10 @@ static ZEROS: [u8; 4096] = [0; 4096];
 /// A writer of JSON text, token by token (RFC 8259). It places commas and colons; the caller nests
 /// arrays and objects.
 ///
-/// The capacity is at most twice the length of the text, and above a mebibyte at most a quarter
-/// more. Besides, the writer allocates as much as the longest text with an escape. A method that
-/// appends a token takes time in proportion to the token.
+/// Beyond the room that it begins with, the capacity is at most 80 bytes more than twice the length
+/// of the text. It doubles, and from a mebibyte on it grows by a quarter. Besides, the writer
+/// allocates as much as the longest text with an escape. A method that appends a token takes time
+/// in proportion to the token.
 ///
 /// After an `AllocError` the text is unspecified, and the writer is to be dropped.
 #[derive(Drop)]
