@@ -1,6 +1,6 @@
 -- What a value in progress holds is bounded.
 use Rattle.std.proofs.Common.{◌≡◌, ℕ, suc, ◌+◌, ◌*◌, ◌≤◌, ◌⊎◌, true, List, [], ◌∷◌, length, Option}
-use Rattle.std.proofs.Common.{Some, None, Ok, Err, refl, sym, ap, subst, ◌∙◌, arith, inl, inr}
+use Rattle.std.proofs.Common.{Some, None, Ok, Err, refl, sym, ap, ◌∙◌, arith, inl, inr}
 use Rattle.std.proofs.Common.{length-append}
 use Rattle.std.specs.Prelude.{Result}
 use Rattle.grammar_core.specs.Runs.{run_front}
@@ -10,8 +10,7 @@ use Rattle.grammar_core.specs.Begun.{begun_preorder, begun_nodes, begun_text_byt
 use Rattle.grammar_core.specs.Preorder.{Head, tree_of, tree_of-preorder}
 use Rattle.grammar_core.specs.Reading.{truncated}
 use Rattle.grammar_core.specs.Tree.{nodes, text_bytes}
-use Rattle.value_core.specs.Begun.{IsBegun}
-use Rattle.value_core.specs.Built.{Built, Entry, Pieces, entries_text_bytes, built_text_bytes}
+use Rattle.value_core.specs.Built.{Entry, Pieces, entries_text_bytes, built_text_bytes}
 use Rattle.value_core.specs.Built.{pieces_bytes}
 use Rattle.value_core.proofs.Begun.{counts}
 use Rattle.value_core.proofs.Finished.{heads_text}
@@ -20,7 +19,7 @@ use Rattle.node_core.specs.Shown.{Seen}
 use Rattle.decode_core.specs.Decoding.{FinishesDecoder, IsSmallValue, IsDone, IsSmall, IsWaiting}
 use Rattle.decode_core.specs.Decoding.{RunCounted, RunLed, built_tree, first_running}
 use Rattle.machine_core.specs.Outcome.{Job}
-use Rattle.machine_core.specs.Running.{Running, IsRunning, held_of, run_held}
+use Rattle.machine_core.specs.Running.{Running, held_of, run_held}
 use Rattle.machine_core.specs.Reported.{Fault, shown}
 use Rattle.machine_core.specs.Turned.{IsSound}
 use Rattle.decode_core.specs.declared.fault.DecodeFault.{DecodeFault}

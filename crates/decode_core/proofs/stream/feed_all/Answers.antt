@@ -1,4 +1,4 @@
-use Rattle.std.proofs.Common.{rules, arith, ap, take, suc, [], ◌+◌, ◌++◌, ◌∙◌, length-append, refl}
+use Rattle.std.proofs.Common.{rules, arith, ap, take, suc, [], ◌++◌, ◌∙◌, length-append, refl}
 use Rattle.std.proofs.KnownBytes.{Consumes-nil, Consumes-trans}
 use Rattle.std.proofs.lemmas.List.{length-take}
 use Rattle.std.proofs.lemmas.Result.{err_from_is_err_and}
