@@ -1,4 +1,4 @@
-//! Tests of JSON texts: written to slices that are long enough or too short, and within budgets, and
+//! Tests of JSON texts: written to slices that are long enough or too short and within budgets, and
 //! printed to writers that fail.
 #![tactic(auto)]
 
