@@ -13,24 +13,24 @@ use std::test::Fail;
 
 /// Checks that a list of so many words, which has this length in front, is written within a budget
 /// of twice its text and 256 bytes, and not within one of less than the text.
-fn check_words(rt: &impl Abort, alloc: Global, length: &[u8], count: usize) -> Result<(), Fail> {
+fn check_words(rt: &impl Abort, alloc: Global, length: &[u8], count: u32) -> Result<(), Fail> {
     let checked = checked(alloc, WORDS)?;
-    let words = vec![in alloc; 3; 2 * count]?;
+    let words = vec![in alloc; 3; 2 * count as usize]?;
     let Ok((value, _)) = front_of(alloc, &checked, 1, AMPLE, &[length, words.as_slice()]) else {
         return Err("no value")?;
     };
     // Each word is 771, and a comma or bracket follows it.
-    let text = 4 * count + 1;
-    let written = json_text(alloc, Budget::new(alloc, 2 * text as u64 + 256)?, &value);
+    let text = 4 * u64::from(count) + 1;
+    let written = json_text(alloc, Budget::new(alloc, 2 * text + 256)?, &value);
     same(
         rt,
-        (count, written.map(|text| text.len())),
+        (count, written.map(|text| text.len() as u64)),
         (count, Ok(text)),
     );
-    let short = json_text(alloc, Budget::new(alloc, text as u64 - 1)?, &value);
+    let short = json_text(alloc, Budget::new(alloc, text - 1)?, &value);
     same(
         rt,
-        (count, short.map(|text| text.len())),
+        (count, short.map(|text| text.len() as u64)),
         (count, Err(AllocError)),
     );
     Ok(())
