@@ -272,8 +272,8 @@ uint32_t scaleview_find(scaleview_registry registry, uint32_t from, const uint8_
  * - the value: a list of its nodes, 24 bytes each; one of its open levels, 24 bytes each; and one of the bytes of its
  *   texts, byte runs and integers above 64 bits. Each has spare capacity: at first for 16 elements, and later for up to
  *   three times as many as it has;
- * - the text while it is written. Its capacity is at most 256 bytes more than twice its length. The longest text with an
- *   escape is held once more. A value that is one byte run, or one text without an escape, takes no memory here.
+ * - the text while it is written. Its capacity is at most 256 bytes more than twice its length. A value that is one
+ *   byte run, or one text without an escape, takes no memory here.
  *
  * Where `realloc` moves a list or text that grows, the heap has the old memory too until it is copied; that doesn't count. Nor
  * do the registry; a fixed number of bytes for each call and session; and, while the text is written, 40 bytes for each field

@@ -58,7 +58,7 @@ fn run_in_front(out: &mut [u8], bytes: &[u8]) -> usize
 /// # Errors
 ///
 /// `AllocError` if an allocation fails; `out` is unchanged.
-pub fn json_to_slice<A: Allocator, B: Allocator + Clone>(
+pub fn json_to_slice<A: Allocator, B: Allocator>(
     alloc: Global,
     text_alloc: B,
     value: &Value<'_, A>,

@@ -27,9 +27,8 @@ pub enum PrintFault {
 /// Returns a value's JSON as text: `serde_json`'s compact text of [`to_json`](crate::to_json), with
 /// no line end.
 ///
-/// It allocates the text from `text_alloc` and its clones. The text's capacity is at most 256 bytes
-/// more than twice its length. It doubles, and from a mebibyte on it grows by a quarter. Besides,
-/// it allocates as much as the longest text with an escape from them.
+/// It allocates the text from `text_alloc`. The capacity is at most 256 bytes more than twice the
+/// text's length. It doubles, and from a mebibyte on it grows by a quarter.
 ///
 /// It allocates 40 bytes for each child of an open object with more than eight fields whose names
 /// are out of order, from `alloc`.
@@ -40,7 +39,7 @@ pub enum PrintFault {
 /// # Errors
 ///
 /// `AllocError` if an allocation fails.
-pub fn json_text<A: Allocator, B: Allocator + Clone>(
+pub fn json_text<A: Allocator, B: Allocator>(
     alloc: Global,
     text_alloc: B,
     value: &Value<'_, A>,

@@ -30,7 +30,7 @@ use value_core::{NodeRef, What};
 const FEW: usize = 8;
 
 /// Writes an unsigned integer as a number or as a text of its decimal digits.
-fn write_unsigned<A: Allocator + Clone>(
+fn write_unsigned<A: Allocator>(
     out: &mut Output<A>,
     shown: IntegerJson,
     n: u128,
@@ -45,7 +45,7 @@ fn write_unsigned<A: Allocator + Clone>(
 }
 
 /// Writes a signed integer as a number or as a text of its decimal digits.
-fn write_signed<A: Allocator + Clone>(
+fn write_signed<A: Allocator>(
     out: &mut Output<A>,
     shown: IntegerJson,
     n: i128,
@@ -60,14 +60,14 @@ fn write_signed<A: Allocator + Clone>(
 }
 
 /// Writes a run of bytes in hexadecimal.
-fn write_bytes<A: Allocator + Clone>(out: &mut Output<A>, bytes: &[u8]) -> Result<(), AllocError>
+fn write_bytes<A: Allocator>(out: &mut Output<A>, bytes: &[u8]) -> Result<(), AllocError>
     ensures { AddsValue result out.old out.new (bytes_json bytes.now) }
 {
     out.hex(bytes)
 }
 
 /// Writes an integer of 256 bits as a text. Its lowest byte is the first.
-fn write_wide<A: Allocator + Clone>(out: &mut Output<A>, bytes: [u8; 32]) -> Result<(), AllocError>
+fn write_wide<A: Allocator>(out: &mut Output<A>, bytes: [u8; 32]) -> Result<(), AllocError>
     ensures { AddsValue result out.old out.new (wide_json bytes) }
 {
     let mut highest_first = bytes;
@@ -76,7 +76,7 @@ fn write_wide<A: Allocator + Clone>(out: &mut Output<A>, bytes: [u8; 32]) -> Res
 }
 
 /// Writes a text of one character.
-fn write_char<A: Allocator + Clone>(out: &mut Output<A>, x: char) -> Result<(), AllocError>
+fn write_char<A: Allocator>(out: &mut Output<A>, x: char) -> Result<(), AllocError>
     ensures { AddsTokens result out.old out.new (string (encode_utf8 x) ∷ []) }
 {
     let mut bytes = [0; 4];
@@ -84,7 +84,7 @@ fn write_char<A: Allocator + Clone>(out: &mut Output<A>, x: char) -> Result<(), 
 }
 
 /// Writes the number of elements, if they take no bytes.
-fn write_count<A: Allocator + Clone>(out: &mut Output<A>, count: u32) -> Result<(), AllocError>
+fn write_count<A: Allocator>(out: &mut Output<A>, count: u32) -> Result<(), AllocError>
     ensures { AddsValue result out.old out.new
         (object (member (codes "count") (number (unsigned count)) no_members)) }
 {
@@ -125,7 +125,7 @@ fn children<'v, 'r>(
 /// there is one, or else steps past each child before it.
 #[cycle(write)]
 #[inline(always)]
-fn write_child<A: Allocator + Clone>(
+fn write_child<A: Allocator>(
     out: &mut Output<A>,
     alloc: Global,
     listed: &[NodeRef<'_, '_>],
@@ -146,7 +146,7 @@ fn write_child<A: Allocator + Clone>(
 /// Writes the children of a node, in order, as items of an array that has begun.
 #[cycle(write)]
 #[inline(always)]
-fn write_each<A: Allocator + Clone>(
+fn write_each<A: Allocator>(
     out: &mut Output<A>,
     alloc: Global,
     node: &NodeRef<'_, '_>,
@@ -162,7 +162,7 @@ fn write_each<A: Allocator + Clone>(
 
 /// Writes the children of a node as an array.
 #[cycle(write)]
-fn write_items<A: Allocator + Clone>(
+fn write_items<A: Allocator>(
     out: &mut Output<A>,
     alloc: Global,
     node: &NodeRef<'_, '_>,
@@ -179,7 +179,7 @@ fn write_items<A: Allocator + Clone>(
 /// order.
 #[cycle(write)]
 #[inline(always)]
-fn write_in_order<A: Allocator + Clone>(
+fn write_in_order<A: Allocator>(
     out: &mut Output<A>,
     alloc: Global,
     fields: &[Field],
@@ -201,7 +201,7 @@ fn write_in_order<A: Allocator + Clone>(
 
 /// Writes the children of a node as an object, each at the name of its field, in this order.
 #[cycle(write)]
-fn write_sorted<A: Allocator + Clone>(
+fn write_sorted<A: Allocator>(
     out: &mut Output<A>,
     alloc: Global,
     fields: &[Field],
@@ -226,7 +226,7 @@ fn write_sorted<A: Allocator + Clone>(
 
 /// Writes the children of a node as the values of fields.
 #[cycle(write)]
-fn write_fields<A: Allocator + Clone>(
+fn write_fields<A: Allocator>(
     out: &mut Output<A>,
     alloc: Global,
     fields: &Fields,
@@ -246,7 +246,7 @@ fn write_fields<A: Allocator + Clone>(
 /// Writes the children of a node as the values of an arm's fields: an object whose one key is the
 /// arm's name.
 #[cycle(write)]
-fn write_arm<A: Allocator + Clone>(
+fn write_arm<A: Allocator>(
     out: &mut Output<A>,
     alloc: Global,
     arm: &Arm,
@@ -271,7 +271,7 @@ fn write_arm<A: Allocator + Clone>(
 /// Writes a node and all that is below it.
 #[cycle(write)]
 #[inline(always)]
-pub(crate) fn write_node<A: Allocator + Clone>(
+pub(crate) fn write_node<A: Allocator>(
     out: &mut Output<A>,
     alloc: Global,
     node: &NodeRef<'_, '_>,

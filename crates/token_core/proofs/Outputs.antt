@@ -4,7 +4,7 @@ use Rattle.std.proofs.Common.{inl, inr, ◌^◌, ◌<◌, ◌≤◌, Bool, true,
 use Rattle.std.proofs.Common.{negsuc, FitsSigned, List, [], ◌∷◌, ◌++◌, length, take, drop, decimal}
 use Rattle.std.proofs.Common.{refl, ap, ap₂, sym, ◌∙◌, subst, arith, IsUtf8, append_assoc}
 use Rattle.std.proofs.Common.{append-nil, length-append, length-take-le, take-append-drop, ltb-true}
-use Rattle.std.proofs.Common.{take_at}
+use Rattle.std.proofs.Common.{take_at, take-take}
 use Rattle.std.specs.Prelude.{Result, OnOk}
 use Rattle.std.specs.Int.{w128}
 use Rattle.std.specs.Fmt.{signed_decimal}
@@ -20,13 +20,13 @@ use Rattle.hex.specs.Hex.{encode_with, encode_lower, lower_digits}
 use Rattle.json.specs.Run.{is_plain}
 use Rattle.json.proofs.Printed.Plain.{escape_on_plain}
 use Rattle.json.specs.Filled.{Placed}
-use Rattle.json.proofs.Printed.Places.{Placed-then}
 use Rattle.json.specs.Token.{Token, begin_object, end_object, begin_array, end_array, key, string}
-use Rattle.json.specs.Print.{begins, ends, token_text, print_from, print, escape_byte, escape}
+use Rattle.json.specs.Print.{begins, ends, token_text, print_from, escape_byte, escape}
 use Rattle.json.specs.Print.{quoted}
 use Rattle.json.proofs.Printed.Strings.{escape_byte_plain}
 use Rattle.json.proofs.Printed.Tokens.{print_from-append}
 use Rattle.json.proofs.Printed.Utf8.{are_ascii, IsUtf8-are_ascii}
+use Rattle.token_core.specs.Places.{Appended}
 use Rattle.token_core.specs.Tokens.{Text, put, prints}
 use Rattle.token_core.specs.declared.output.Role.TheVariants as role
 
@@ -79,12 +79,6 @@ ended r w new t is = on_ok_weaker r (λ e. e
     (sym (ap (λ c. cond {A = List ℕ} (w.after_value && c) (44 ∷ []) [] ++ (token_text t ++ [])) is
     ∙ ap₂ (λ (a b : List ℕ). a ++ b) (no_comma w.after_value) (append-nil (token_text t)))))
 
--- a token alone
-pub printed_alone : (ts : List Token) (t : Token) → ts ≡ [] ++ t ∷ [] →
-    print ts ≡ token_text t
-unfolding print_from
-printed_alone ts t is = ap print is ∙ append-nil (token_text t)
-
 -- ---- texts without an escape
 
 -- a string that needs no escape is printed as it is, in quotes
@@ -123,7 +117,7 @@ array_member_ended w = ap (λ (l : List ℕ). record { text = w.text ++ l; after
     (sym (ap (λ (l : List ℕ). l ++ 93 ∷ 125 ∷ []) (no_comma w.after_value)))
 
 -- a text is escaped part by part
-escape_append : (a b : List ℕ) → escape (a ++ b) ≡ escape a ++ escape b
+pub escape_append : (a b : List ℕ) → escape (a ++ b) ≡ escape a ++ escape b
 escape_append [] b = refl
 escape_append (x ∷ a) b = ap (λ l. escape_byte x ++ l) (escape_append a b)
     ∙ sym (append_assoc (escape_byte x) _ _)
@@ -214,50 +208,71 @@ pub comma_utf8 : (b : Bool) → IsUtf8 (cond b (44 ∷ []) [])
 comma_utf8 true = IsUtf8-are_ascii (44 ∷ []) refl
 comma_utf8 false = IsUtf8-nil
 
--- ---- a text after which a comma that may be wanted was placed, and then xs
+-- ---- a text with an escape
 
-module _ (items : List ℕ) (comma : Bool) {grown old mid new xs : List ℕ} {len at end n : ℕ}
-    (same : take len grown ≡ take len items) (value : old ≡ grown) (long : length old ≡ n)
-    (first : Placed old mid len (cond comma (44 ∷ []) []) at) (second : Placed mid new at xs end)
+-- a key with an escape is a string and a colon
+pub escaped_key : (w : Text) (n : List ℕ) →
+    put (put w role.Opening (quoted n)) role.Opening (58 ∷ []) ≡ prints w (key n ∷ [])
+escaped_key w n =
+    let comma = cond {A = List ℕ} w.after_value (44 ∷ []) [] in
+    written w _ w.after_value _ (key n) refl refl refl
+    (append_assoc w.text (comma ++ quoted n) (58 ∷ [])
+    ∙ ap (λ l. w.text ++ l) (append_assoc comma (quoted n) (58 ∷ [])))
+
+-- ---- bytes that grow
+
+-- bytes that were placed where room had been made
+pub appended : {items grown old new xs : List ℕ} {at end n : ℕ} → at ≤ length items →
+    take at grown ≡ take at items → length items ≤ length grown → old ≡ grown →
+    length old ≡ n → Placed old new at xs end →
+    Appended items (take n (new ++ drop (length new) grown)) at xs end
+appended {items} {grown} {old} {new} {xs} {at} {end} {n} inside same kept value long placed =
+    let whole : take n (new ++ drop (length new) grown) ≡ new =
+    take_at new _ n (placed.len ∙ long) in
+    let start : take at old ≡ take at items = ap (take at) value ∙ same in
+    let bytes : take end new ≡ take at items ++ xs =
+    placed.bytes ∙ ap (λ l. l ++ xs) start in
+    let few : length (take at items) ≡ at = length-take-le at items inside in
+    let moved = placed.moved in
+    subst (λ b. Appended items b at xs end) (sym whole) (record {
+      bytes = bytes;
+      within = omega (
+        arith,
+        ap length bytes,
+        length-append (take at items) xs,
+        ap length (take-append-drop end new),
+        length-append (take end new) (drop end new),
+        few,
+        moved,
+      );
+      front = sym (take-take at end new (omega (arith, moved))) ∙ ap (take at) bytes
+          ∙ take_at (take at items) xs at few;
+      kept = omega (arith, kept, ap length value, placed.len);
+    })
+
+-- where the first bytes are kept, the first of them are
+pub front_kept : (old new : List ℕ) {len at : ℕ} → len ≤ at → take at new ≡ take at old →
+    take len new ≡ take len old
+front_kept old new {len} {at} l e =
+    sym (take-take len at new l) ∙ ap (take len) e ∙ take-take len at old l
+
+-- ---- a text after which a comma that may be wanted was written, and then xs
+
+module _ (comma : Bool) {items bytes xs : List ℕ} {len end : ℕ}
+    (added : Appended items bytes len (cond comma (44 ∷ []) [] ++ xs) end)
   where
-    -- the bytes are those that were written into
-    whole : take n (new ++ drop (length new) grown) ≡ new
-    whole = take_at new _ n (second.len ∙ first.len ∙ long)
-
-    -- the text goes on with what was placed
-    text_after : take end (take n (new ++ drop (length new) grown))
-        ≡ take len items ++ (cond comma (44 ∷ []) [] ++ xs)
-    text_after = ap (take end) whole ∙ (Placed-then first second).bytes
-        ∙ ap (λ l. l ++ (cond comma (44 ∷ []) [] ++ xs)) (ap (take len) value ∙ same)
-
     -- it is UTF-8 again, and lies within the bytes
-    pub utf8_after : (len ≤ length items) × IsUtf8 (take len items) → length items ≤ length grown →
-        IsUtf8 xs → (end ≤ length (take n (new ++ drop (length new) grown)))
-        × IsUtf8 (take end (take n (new ++ drop (length new) grown)))
-    utf8_after before kept utf8 =
-        let ys = cond {A = List ℕ} comma (44 ∷ []) [] ++ xs in
-        let both = Placed-then first second in (
-          omega (
-            arith,
-            ap length whole,
-            both.moved,
-            both.len,
-            ap length both.bytes,
-            length-append (take len old) ys,
-            length-take-le len old (omega (arith, before.0, kept, ap length value)),
-            ap length (take-append-drop end new),
-            length-append (take end new) (drop end new),
-          ),
-          subst IsUtf8 (sym text_after) (IsUtf8-append (take len items) ys before.1
-              (IsUtf8-append _ xs (comma_utf8 comma) utf8)),
-        )
+    pub utf8_after : IsUtf8 (take len items) → IsUtf8 xs →
+        (end ≤ length bytes) × IsUtf8 (take end bytes)
+    utf8_after before utf8 = (
+      added.within,
+      subst IsUtf8 (sym added.bytes)
+          (IsUtf8-append (take len items) _ before (IsUtf8-append _ xs (comma_utf8 comma) utf8)),
+    )
 
     -- where xs are those of a token that begins a value or a member, the token was added
     pub token_after : (w : Text) (t : Token) →
         record { text = take len items; after_value = comma } ≡ w → xs ≡ token_text t →
-        begins t ≡ true → record {
-          text = take end (take n (new ++ drop (length new) grown));
-          after_value = ends t;
-        } ≡ prints w (t ∷ [])
+        begins t ≡ true → record { text = take end bytes; after_value = ends t } ≡ prints w (t ∷ [])
     token_after w t view says is = written w _ comma xs t (ap (λ v. v.after_value) view) says is
-        (text_after ∙ ap (λ v. v.text ++ (cond comma (44 ∷ []) [] ++ xs)) view)
+        (added.bytes ∙ ap (λ v. v.text ++ (cond comma (44 ∷ []) [] ++ xs)) view)

@@ -1,19 +1,20 @@
 //! A writer of JSON text, token by token.
 
-ghost use Rattle.std.specs.Prelude.{◌≡◌, ◌+◌, ◌≤◌, ◌++◌, [], ◌∷◌, false, codes, decimal};
+ghost use Rattle.std.specs.Prelude.{◌≡◌, ◌+◌, ◌≤◌, ◌++◌, [], ◌∷◌, false, cond, codes, decimal};
 ghost use Rattle.std.specs.Prelude.{length, take, string_bytes, OnOk, IfOk};
 ghost use Rattle.std.specs.Fmt.{signed_decimal};
 ghost use Rattle.hex.specs.Hex.{encode_lower};
+ghost use Rattle.json.specs.Print.{quoted};
 ghost use Rattle.json.specs.Token.{begin_object, end_object, begin_array, end_array, key, string};
 ghost use Rattle.json.specs.Token.{number, boolean, null};
+ghost use Rattle.token_core.specs.Places.{Appended};
 ghost use Rattle.token_core.specs.Plain.{AreEscapes};
 
 use crate::places::{
     place_between, place_byte, place_bytes, place_comma, place_decimal, place_long,
 };
 use crate::plain::{Escapes, is_plain};
-use crate::strings::place_hex_text;
-use json::Writer;
+use crate::strings::{BLOCK, place_escaped, place_hex_text};
 use std::alloc::{AllocError, Allocator};
 use std::marker::Model;
 
@@ -29,10 +30,9 @@ static ZEROS: [u8; 4096] = [0; 4096];
 /// A writer of JSON text, token by token (RFC 8259). It places commas and colons; the caller nests
 /// arrays and objects.
 ///
-/// Beyond the room that it begins with, the capacity is at most 80 bytes more than twice the length
-/// of the text. It doubles, and from a mebibyte on it grows by a quarter. Besides, the writer
-/// allocates as much as the longest text with an escape. A method that appends a token takes time
-/// in proportion to the token.
+/// Beyond the room that it begins with, the capacity is at most 160 bytes more than twice the
+/// text's length. It doubles, and from a mebibyte on it grows by a quarter. A method that appends a
+/// token takes time in proportion to the token.
 ///
 /// After an `AllocError` the text is unspecified, and the writer is to be dropped.
 #[derive(Drop)]
@@ -41,8 +41,6 @@ pub struct Output<A: Allocator> {
     bytes: Vec<u8, A>,
     len: usize,
     after_value: bool,
-    /// The buffer in which texts are escaped, kept for its capacity.
-    escaped: Vec<u8, A>,
 }
 
 impl<A: Allocator> Model for Output<A> {
@@ -99,6 +97,35 @@ fn grow<A: Allocator>(bytes: &mut Vec<u8, A>, more: usize) -> Result<(), AllocEr
     Ok(())
 }
 
+/// Writes a text between quotes, escaped, after the first `len` bytes and a comma if one is wanted.
+/// It returns the position after the text.
+fn append_quoted<A: Allocator>(
+    bytes: &mut Vec<u8, A>,
+    len: usize,
+    comma: bool,
+    text: &[u8],
+) -> Result<usize, AllocError>
+    requires { len ≤ length bytes.old.items }
+    ensures ok { IfOk result (λ end. Appended bytes.old.items bytes.new.items len
+        (cond comma (44 ∷ []) [] ++ quoted text.now) end) }
+    ensures same { take len bytes.new.items ≡ take len bytes.old.items }
+    ensures kept { length bytes.old.items ≤ length bytes.new.items }
+{
+    make_room(bytes, len, 2)?;
+    let buffer = bytes.as_mut_slice();
+    let first = place_comma(buffer, len, comma);
+    let mut end = place_byte(buffer, first, b'"');
+    let mut rest = text;
+    'blocks: while !rest.is_empty() {
+        let (block, after) = rest.split_at(rest.len().min(BLOCK));
+        make_room(bytes, end, 6 * block.len())?;
+        end = place_escaped(bytes.as_mut_slice(), end, block);
+        rest = after;
+    }
+    make_room(bytes, end, 1)?;
+    Ok(place_byte(bytes.as_mut_slice(), end, b'"'))
+}
+
 /// How a token stands to the values around it.
 #[derive(Clone, Copy)]
 enum Role {
@@ -130,11 +157,10 @@ impl Role {
     }
 }
 
-impl<A: Allocator + Clone> Output<A> {
+impl<A: Allocator> Output<A> {
     ghost use Rattle.token_core.specs.Tokens.{AddsTokens, put};
 
-    /// Returns a writer whose text is empty, with a capacity of `room` bytes. Everything that it
-    /// allocates comes from the allocator and its clones.
+    /// Returns a writer whose text is empty, with a capacity of `room` bytes, from this allocator.
     ///
     /// # Errors
     ///
@@ -142,12 +168,10 @@ impl<A: Allocator + Clone> Output<A> {
     pub fn with_room(alloc: A, room: usize) -> Result<Output<A>, AllocError>
         ensures { IfOk result (λ o. o ≡ record { text = []; after_value = false }) }
     {
-        let escaped = Vec::new(alloc.clone()?);
         Ok(Output {
             bytes: Vec::with_capacity(alloc, room)?,
             len: 0,
             after_value: false,
-            escaped,
         })
     }
 
@@ -194,6 +218,25 @@ impl<A: Allocator + Clone> Output<A> {
         self.len = place_between(buffer, at, opening, characters.as_bytes(), closing);
         self.after_value = role.ends_value();
         Ok(())
+    }
+
+    /// Appends a text between quotes, escaped.
+    #[inline(never)]
+    fn put_escaped(&mut self, role: Role, text: &str) -> Result<(), AllocError>
+        ensures { OnOk result (self.new ≡ put self.old role (quoted text.now)) }
+    {
+        let comma = role.takes_comma(self.after_value);
+        self.len = append_quoted(&mut self.bytes, self.len, comma, text.as_bytes())?;
+        self.after_value = role.ends_value();
+        Ok(())
+    }
+
+    /// Appends a key that needs an escape, and its colon.
+    fn escaped_key(&mut self, name: &str) -> Result<(), AllocError>
+        ensures { AddsTokens result self.old self.new (key name.now ∷ []) }
+    {
+        self.put_escaped(Role::Opening, name)?;
+        self.put(Role::Opening, ":")
     }
 
     /// Appends the `{` of an object.
@@ -328,7 +371,7 @@ impl<A: Allocator + Clone> Output<A> {
         self.put_plain(Role::Value, "\"", buffer.format(n), "\"")
     }
 
-    /// Appends a key, of which the caller knows whether it needs an escape, and its colon.
+    /// Appends a key and its colon. `escapes` tells whether the key needs an escape.
     ///
     /// # Errors
     ///
@@ -344,8 +387,8 @@ impl<A: Allocator + Clone> Output<A> {
         }
     }
 
-    /// Appends the `{` of an object, its first key, of which the caller knows whether it needs an
-    /// escape, and the colon.
+    /// Appends the `{` of an object, its first key and the colon. `escapes` tells whether the key
+    /// needs an escape.
     ///
     /// # Errors
     ///
@@ -362,8 +405,8 @@ impl<A: Allocator + Clone> Output<A> {
         self.escaped_key(name)
     }
 
-    /// Appends the `{` of an object, its first key, of which the caller knows whether it needs an
-    /// escape, the colon, and the `[` of an array.
+    /// Appends the `{` of an object, its first key, the colon, and the `[` of an array. `escapes`
+    /// tells whether the key needs an escape.
     ///
     /// # Errors
     ///
@@ -394,22 +437,6 @@ impl<A: Allocator + Clone> Output<A> {
         self.put(Role::Closing, "]}")
     }
 
-    /// Appends a key that needs an escape, and its colon.
-    #[inline(never)]
-    fn escaped_key(&mut self, name: &str) -> Result<(), AllocError>
-        ensures { AddsTokens result self.old self.new (key name.now ∷ []) }
-    {
-        let alloc = self.bytes.allocator().clone()?;
-        let mut room = std::mem::replace(&mut self.escaped, Vec::new(alloc));
-        room.clear();
-        let mut escaped = Writer::new(room);
-        escaped.key(name)?;
-        let escaped = unsafe { String::from_utf8_unchecked(escaped.into_inner()) };
-        self.put(Role::Opening, escaped.as_str())?;
-        self.escaped = escaped.into_bytes();
-        Ok(())
-    }
-
     /// Appends a text.
     ///
     /// # Errors
@@ -422,24 +449,8 @@ impl<A: Allocator + Clone> Output<A> {
         if is_plain(text) {
             self.put_plain(Role::Value, "\"", text, "\"")
         } else {
-            self.escaped(text)
+            self.put_escaped(Role::Value, text)
         }
-    }
-
-    /// Appends a text that needs an escape.
-    #[inline(never)]
-    fn escaped(&mut self, text: &str) -> Result<(), AllocError>
-        ensures { AddsTokens result self.old self.new (string text.now ∷ []) }
-    {
-        let alloc = self.bytes.allocator().clone()?;
-        let mut room = std::mem::replace(&mut self.escaped, Vec::new(alloc));
-        room.clear();
-        let mut escaped = Writer::new(room);
-        escaped.string(text)?;
-        let escaped = unsafe { String::from_utf8_unchecked(escaped.into_inner()) };
-        self.put(Role::Value, escaped.as_str())?;
-        self.escaped = escaped.into_bytes();
-        Ok(())
     }
 
     /// Appends a text of `0x` and two hexadecimal digits for each byte.

@@ -16,7 +16,7 @@ pub enum Escapes {
 
 /// Returns whether none of 16 bytes needs an escape.
 #[inline(always)]
-fn is_plain_16(text: &[u8], at: usize) -> bool
+pub(crate) fn is_plain_16(text: &[u8], at: usize) -> bool
     requires { at + 16 ≤ length text.now }
     ensures { TellsPlain result text.now at (at + 16) }
 {

@@ -1,7 +1,8 @@
 use Rattle.std.proofs.Common.{◌≡◌, ◌+◌, ◌*◌, ◌∷◌, length, refl, ap, arith, rules}
 use Rattle.hex.specs.Hex.{encode_lower}
 use Rattle.json.specs.Token.{string}
-use Rattle.token_core.proofs.Outputs.{comma_short, hex_utf8, token_after, utf8_after}
+use Rattle.json.proofs.Printed.Places.{Placed-then}
+use Rattle.token_core.proofs.Outputs.{appended, comma_short, hex_utf8, token_after, utf8_after}
 use Rattle.token_core.proofs.output.Output.hex.Goals as goal
 
 pub place_hex_text-self-inside-requires : goal.place_hex_text-self-inside-requires
@@ -20,15 +21,15 @@ place_hex_text-self-inside-requires g c =
     )
 
 pub invariant_of-self-2 : goal.invariant_of-self-2
-invariant_of-self-2 g c = utf8_after c.self.inside.bytes.items c.self.inside.after_value
-    c.in_ok-make_room.ensures.same c.as_mut_slice-buffer.ensures.value
-    c.as_mut_slice-buffer.ensures.len c.place_comma-at.ensures
-    c.place_hex_text-self-inside.ensures.placed c.self.invariant c.in_ok-make_room.ensures.kept
-    (hex_utf8 c.args.bytes.now c.type_inv.bytes)
+invariant_of-self-2 g c = utf8_after _ (appended c.self.invariant.0 c.in_ok-make_room.ensures.same
+    c.in_ok-make_room.ensures.kept c.as_mut_slice-buffer.ensures.value
+    c.as_mut_slice-buffer.ensures.len
+    (Placed-then c.place_comma-at.ensures c.place_hex_text-self-inside.ensures.placed))
+    c.self.invariant.1 (hex_utf8 c.args.bytes.now c.type_inv.bytes)
 
 pub returns : goal.returns
-returns g c = token_after c.self.inside.bytes.items c.self.inside.after_value
-    c.in_ok-make_room.ensures.same c.as_mut_slice-buffer.ensures.value
-    c.as_mut_slice-buffer.ensures.len c.place_comma-at.ensures
-    c.place_hex_text-self-inside.ensures.placed c.args.self.now
-    (string (48 ∷ 120 ∷ encode_lower c.args.bytes.now)) c.self.view_is refl refl
+returns g c = token_after _ (appended c.self.invariant.0 c.in_ok-make_room.ensures.same
+    c.in_ok-make_room.ensures.kept c.as_mut_slice-buffer.ensures.value
+    c.as_mut_slice-buffer.ensures.len
+    (Placed-then c.place_comma-at.ensures c.place_hex_text-self-inside.ensures.placed))
+    c.args.self.now (string (48 ∷ 120 ∷ encode_lower c.args.bytes.now)) c.self.view_is refl refl

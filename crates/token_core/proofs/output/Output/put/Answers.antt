@@ -1,9 +1,10 @@
-use Rattle.token_core.proofs.Outputs.{utf8_after}
+use Rattle.json.proofs.Printed.Places.{Placed-then}
+use Rattle.token_core.proofs.Outputs.{appended, utf8_after}
 use Rattle.token_core.proofs.output.Output.put.Goals as goal
 
 pub invariant_of-self-2 : goal.invariant_of-self-2
-invariant_of-self-2 g c = utf8_after c.self.inside.bytes.items _
-    c.in_ok-make_room.ensures.same c.as_mut_slice-buffer.ensures.value
-    c.as_mut_slice-buffer.ensures.len c.place_comma-at.ensures
-    c.place_bytes-self-inside.ensures.placed c.self.invariant c.in_ok-make_room.ensures.kept
-    c.as_bytes.ensures.utf8
+invariant_of-self-2 g c = utf8_after _ (appended c.self.invariant.0 c.in_ok-make_room.ensures.same
+    c.in_ok-make_room.ensures.kept c.as_mut_slice-buffer.ensures.value
+    c.as_mut_slice-buffer.ensures.len
+    (Placed-then c.place_comma-at.ensures c.place_bytes-self-inside.ensures.placed))
+    c.self.invariant.1 c.as_bytes.ensures.utf8

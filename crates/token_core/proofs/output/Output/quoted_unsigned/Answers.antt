@@ -4,7 +4,7 @@ use Rattle.std.proofs.lemmas.Str.{IsUtf8-append, IsUtf8-from_ascii}
 use Rattle.json.specs.Token.{string}
 use Rattle.json.proofs.Printed.Places.{Placed-then}
 use Rattle.json.proofs.Printed.Utf8.{IsUtf8-are_ascii}
-use Rattle.token_core.proofs.Outputs.{comma_short, escape_decimal, plain_string}
+use Rattle.token_core.proofs.Outputs.{appended, comma_short, escape_decimal, plain_string}
 use Rattle.token_core.proofs.Outputs.{token_after, utf8_after}
 use Rattle.token_core.proofs.output.Output.quoted_unsigned.Goals as goal
 
@@ -30,19 +30,20 @@ pub invariant_of-self-2 : goal.invariant_of-self-2
 invariant_of-self-2 g c =
     let quote = IsUtf8-are_ascii (34 ∷ []) refl in
     let digits = IsUtf8-from_ascii _ (IsAscii-decimal_wide c.args.n (search rules)) in
-    utf8_after c.self.inside.bytes.items c.self.inside.after_value
-    c.in_ok-make_room.ensures.same c.as_mut_slice-buffer.ensures.value
-    c.as_mut_slice-buffer.ensures.len c.place_comma-at.ensures (Placed-then
+    utf8_after _ (appended c.self.invariant.0 c.in_ok-make_room.ensures.same
+    c.in_ok-make_room.ensures.kept c.as_mut_slice-buffer.ensures.value
+    c.as_mut_slice-buffer.ensures.len
+    (Placed-then c.place_comma-at.ensures (Placed-then
     c.place_byte-first.ensures
-    (Placed-then c.place_long-end.ensures c.place_byte-self-inside.ensures)) c.self.invariant
-    c.in_ok-make_room.ensures.kept
-    (IsUtf8-append _ _ quote (IsUtf8-append _ _ digits quote))
+    (Placed-then c.place_long-end.ensures c.place_byte-self-inside.ensures))))
+    c.self.invariant.1 (IsUtf8-append _ _ quote (IsUtf8-append _ _ digits quote))
 
 pub returns : goal.returns
-returns g c = token_after c.self.inside.bytes.items c.self.inside.after_value
-    c.in_ok-make_room.ensures.same c.as_mut_slice-buffer.ensures.value
-    c.as_mut_slice-buffer.ensures.len c.place_comma-at.ensures (Placed-then
+returns g c = token_after _ (appended c.self.invariant.0 c.in_ok-make_room.ensures.same
+    c.in_ok-make_room.ensures.kept c.as_mut_slice-buffer.ensures.value
+    c.as_mut_slice-buffer.ensures.len
+    (Placed-then c.place_comma-at.ensures (Placed-then
     c.place_byte-first.ensures
-    (Placed-then c.place_long-end.ensures c.place_byte-self-inside.ensures)) c.args.self.now
-    (string (decimal c.args.n)) c.self.view_is
+    (Placed-then c.place_long-end.ensures c.place_byte-self-inside.ensures))))
+    c.args.self.now (string (decimal c.args.n)) c.self.view_is
     (plain_string (decimal c.args.n) (escape_decimal c.args.n (search rules))) refl
