@@ -3,7 +3,7 @@ use Rattle.std.specs.Prelude.{◌≡◌, ℕ, zero, suc, ◌<◌, ◌≤◌, ◌
 use Rattle.std.specs.Prelude.{List, [], ◌++◌, length, take}
 use Rattle.std.specs.Prelude.{Result, Ok, Err, Option, Some, None, IfSome}
 use Rattle.std.specs.Io.KnownBytes.{Consumes, IsAtEnd, Keeps}
-use Rattle.registry_core.specs.declared.type_info.TypeInfo.{TypeInfo}
+use Rattle.types_core.specs.declared.type_info.TypeInfo.{TypeInfo}
 use Rattle.graph_core.specs.Widths.{widest}
 use Rattle.grammar_core.specs.Tree.{Tree, nodes, text_bytes}
 use Rattle.node_core.specs.Shown.{Seen}

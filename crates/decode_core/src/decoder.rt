@@ -19,7 +19,7 @@ use crate::fault::{DecodeFault, OpenFault};
 use count_core::Count;
 use grammar_core::MAX_DEPTH;
 use machine_core::{DecodeReason, Partial, Stopped};
-use registry_core::TypeId;
+use types_core::TypeId;
 use std::alloc::Allocator;
 use std::marker::Model;
 use std::mem;

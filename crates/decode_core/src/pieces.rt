@@ -7,7 +7,7 @@ ghost use Rattle.decode_core.specs.declared.pieces.PiecesFault.TheVariants.{Deco
 
 use crate::decoder::{Decoder, Progress};
 use crate::fault::{DecodeFault, OpenFault};
-use registry_core::TypeId;
+use types_core::TypeId;
 use std::alloc::Allocator;
 use thiserror::Error;
 use value_core::{Limits, Value};

@@ -9,7 +9,7 @@ ghost use Rattle.decode_core.specs.declared.stream.StreamFault.TheVariants.{Deco
 
 use crate::decoder::{Decoder, Progress};
 use crate::fault::{DecodeFault, OpenFault};
-use registry_core::TypeId;
+use types_core::TypeId;
 use scale_core::{ReadOnce, Source, SourceFault};
 use std::alloc::Allocator;
 use thiserror::Error;

@@ -4,8 +4,8 @@ use Rattle.std.proofs.Common.{take_all}
 use Rattle.std.proofs.lemmas.Bool.{le-ltb}
 use Rattle.scale_core.specs.Read.{bytes_at, compact_at}
 use Rattle.scale_core.specs.declared.compact.Target.{Target}
-use Rattle.registry_core.specs.declared.kind.Signedness.{Signedness}
-use Rattle.registry_core.specs.declared.kind.Signedness.TheVariants as sign
+use Rattle.types_core.specs.declared.kind.Signedness.{Signedness}
+use Rattle.types_core.specs.declared.kind.Signedness.TheVariants as sign
 use Rattle.grammar_core.specs.Preorder as head
 use Rattle.grammar_core.specs.Reading.{as_leaf}
 use Rattle.grammar_core.specs.Tree as tree

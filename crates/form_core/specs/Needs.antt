@@ -4,10 +4,10 @@ use Rattle.std.specs.Prelude.{◌≡◌, ℕ, List, ◌∷◌, length, if◌then
 use Rattle.scale_core.specs.Read.{is_too_long, mode_len}
 use Rattle.scale_core.specs.declared.compact.Target.{Target}
 use Rattle.scale_core.specs.declared.compact.Target.TheVariants as target
-use Rattle.registry_core.specs.Kinds.{kind_of, width_bytes}
-use Rattle.registry_core.specs.declared.kind.PrimitiveKind.{PrimitiveKind}
-use Rattle.registry_core.specs.declared.kind.PrimitiveKind.TheVariants as K
-use Rattle.registry_core.specs.declared.primitive.Primitive.{Primitive}
+use Rattle.types_core.specs.Kinds.{kind_of, width_bytes}
+use Rattle.types_core.specs.declared.kind.PrimitiveKind.{PrimitiveKind}
+use Rattle.types_core.specs.declared.kind.PrimitiveKind.TheVariants as K
+use Rattle.types_core.specs.declared.primitive.Primitive.{Primitive}
 use Rattle.grammar_core.specs.declared.form.Form.{Form}
 use Rattle.grammar_core.specs.declared.form.Form.TheVariants as form
 

@@ -1,11 +1,11 @@
 -- The forms of nodes with few bytes, `PlainForm` and `BytesForm`, as a `Form`.
-use Rattle.registry_core.specs.Kinds.{width_bytes}
-use Rattle.registry_core.specs.declared.kind.IntegerWidth.{IntegerWidth}
-use Rattle.registry_core.specs.declared.kind.IntegerWidth.TheVariants as width
-use Rattle.registry_core.specs.declared.kind.Signedness.{Signedness}
-use Rattle.registry_core.specs.declared.kind.Signedness.TheVariants as sign
-use Rattle.registry_core.specs.declared.primitive.Primitive.{Primitive}
-use Rattle.registry_core.specs.declared.primitive.Primitive.TheVariants as P
+use Rattle.types_core.specs.Kinds.{width_bytes}
+use Rattle.types_core.specs.declared.kind.IntegerWidth.{IntegerWidth}
+use Rattle.types_core.specs.declared.kind.IntegerWidth.TheVariants as width
+use Rattle.types_core.specs.declared.kind.Signedness.{Signedness}
+use Rattle.types_core.specs.declared.kind.Signedness.TheVariants as sign
+use Rattle.types_core.specs.declared.primitive.Primitive.{Primitive}
+use Rattle.types_core.specs.declared.primitive.Primitive.TheVariants as P
 use Rattle.widths_core.specs.Layouts.{Plain}
 use Rattle.widths_core.specs.Layouts as layout
 use Rattle.grammar_core.specs.declared.form.Form.{Form}

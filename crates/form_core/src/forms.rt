@@ -5,7 +5,7 @@ ghost use Rattle.form_core.specs.Needs.{HasBytes};
 ghost use Rattle.form_core.specs.NodeForms.{form_of_bytes};
 
 use grammar_core::Form;
-use registry_core::{IntegerWidth, Primitive, PrimitiveKind, Signedness};
+use types_core::{IntegerWidth, Primitive, PrimitiveKind, Signedness};
 use scale_core::Target;
 
 /// The form of a node without parts that is neither a text nor a run of bytes (SCALE codec,

@@ -2,7 +2,7 @@
 
 ghost use Rattle.std.specs.Prelude.{IfOk};
 ghost use Rattle.scale_core.specs.Read.{compact_at, number_at, signed_at};
-ghost use Rattle.registry_core.specs.Kinds.{width_bytes};
+ghost use Rattle.types_core.specs.Kinds.{width_bytes};
 ghost use Rattle.node_core.specs.Leaves.{FitsLeaf};
 ghost use Rattle.form_core.specs.Needs.{AreOwn};
 ghost use Rattle.form_core.specs.NodeForms.{form_of_plain};
@@ -10,7 +10,7 @@ ghost use Rattle.form_core.specs.PlainReads.{ReadsFront, ReadsPlain};
 
 use crate::forms::PlainForm;
 use node_core::Leaf;
-use registry_core::IntegerWidth;
+use types_core::IntegerWidth;
 use scale_core::{
     Fault, Target, read_bool, read_char, read_compact, read_i8, read_i16, read_i32, read_i64,
     read_i128, read_u8, read_u16, read_u32, read_u64, read_u128,

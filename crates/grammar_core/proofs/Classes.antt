@@ -1,6 +1,6 @@
 -- What a type without a definition is.
 use Rattle.std.proofs.Common.{◌≡◌, ℕ, zero, suc, false, List, None, refl}
-use Rattle.registry_core.specs.declared.type_info.TypeInfo.{TypeInfo}
+use Rattle.types_core.specs.declared.type_info.TypeInfo.{TypeInfo}
 use Rattle.graph_core.specs.Types.{shape}
 use Rattle.widths_core.specs.Classes.{holds_at, finite_within}
 

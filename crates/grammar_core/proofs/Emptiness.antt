@@ -5,7 +5,7 @@ use Rattle.std.specs.List.{list_all}
 use Rattle.scale_core.specs.Compact.{IsCompact}
 use Rattle.scale_core.specs.declared.compact.Target.TheVariants as target
 use Rattle.scale_core.proofs.Again.{compact-bytes}
-use Rattle.registry_core.specs.declared.type_info.TypeInfo.{TypeInfo}
+use Rattle.types_core.specs.declared.type_info.TypeInfo.{TypeInfo}
 use Rattle.widths_core.specs.declared.class.Class.TheVariants as class
 use Rattle.widths_core.specs.Classes.{IsEmpty, class_of, empty_within}
 use Rattle.widths_core.specs.Layouts.{Plain, Layout, layout}

@@ -4,7 +4,7 @@ use Rattle.std.proofs.Common.{Some, ap, ◌∙◌, append_assoc, arith}
 use Rattle.std.proofs.lemmas.Option.{same_Some}
 use Rattle.scale_core.specs.Read.{Read, ◌>>=◌}
 use Rattle.scale_core.proofs.Results.{Takes}
-use Rattle.registry_core.specs.declared.type_info.TypeInfo.{TypeInfo}
+use Rattle.types_core.specs.declared.type_info.TypeInfo.{TypeInfo}
 use Rattle.grammar_core.specs.Tree.{Tree, Trees, none, and, levels, most_levels}
 use Rattle.grammar_core.specs.Grammar.{Val}
 use Rattle.grammar_core.specs.Parts.{Part, each, times, first_of, left_after}

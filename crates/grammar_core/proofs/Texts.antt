@@ -1,6 +1,6 @@
 -- Each text of a value is UTF-8.
 use Rattle.std.proofs.Common.{ℕ, ◌≤◌, List, [], ◌∷◌, length, ap, arith, inl, inr, length-append}
-use Rattle.registry_core.specs.declared.type_info.TypeInfo.{TypeInfo}
+use Rattle.types_core.specs.declared.type_info.TypeInfo.{TypeInfo}
 use Rattle.graph_core.specs.Types.{field_types}
 use Rattle.widths_core.specs.Layouts.{Plain}
 use Rattle.widths_core.specs.declared.run_kind.RunKind.{RunKind}

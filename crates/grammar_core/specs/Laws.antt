@@ -2,8 +2,8 @@
 use Rattle.std.specs.Prelude.{◌≡◌, ◌≢◌, ℕ, ◌+◌, ◌*◌, ◌≤◌, List, [], ◌++◌, length, Ok, Err, ◌⊎◌}
 use Rattle.std.specs.Prelude.{Option, Some, None, true, false}
 use Rattle.scale_core.specs.Number.{AreBytes}
-use Rattle.registry_core.specs.declared.type_info.TypeInfo.{TypeInfo}
-use Rattle.registry_core.specs.Fits.{FitsText, FitsRegistry}
+use Rattle.types_core.specs.declared.type_info.TypeInfo.{TypeInfo}
+use Rattle.types_core.specs.Fits.{FitsText, FitsRegistry}
 use Rattle.graph_core.specs.Widths.{widest}
 use Rattle.widths_core.specs.Reach.{IsPlain}
 use Rattle.widths_core.specs.Classes.{IsFinite, IsEmpty, class_of}

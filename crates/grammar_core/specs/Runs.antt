@@ -9,7 +9,7 @@ use Rattle.scale_core.specs.Read.{Read, ◌>>=◌, bytes_at, compact_at}
 use Rattle.scale_core.specs.declared.compact.Target.TheVariants as target
 use Rattle.scale_core.specs.declared.fault.Reason.{Reason}
 use Rattle.scale_core.specs.declared.fault.Reason.TheVariants as reason
-use Rattle.registry_core.specs.declared.primitive.Primitive.TheVariants as P
+use Rattle.types_core.specs.declared.primitive.Primitive.TheVariants as P
 use Rattle.widths_core.specs.declared.run_kind.RunKind.{RunKind}
 use Rattle.widths_core.specs.declared.run_kind.RunKind.TheVariants as kind
 use Rattle.grammar_core.specs.Tree.{Leaf}

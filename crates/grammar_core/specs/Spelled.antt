@@ -5,13 +5,13 @@ use Rattle.std.specs.Prelude.{flat_map, Option, Some, None, slice_get, option_ma
 use Rattle.std.specs.Prelude.{false, if◌then◌else◌}
 use Rattle.scale_core.specs.Number.{AreBytes, le_bytes, bool_byte}
 use Rattle.scale_core.specs.Compact.{compact}
-use Rattle.registry_core.specs.Kinds.{kind_of, width_bytes}
-use Rattle.registry_core.specs.declared.kind.PrimitiveKind.{PrimitiveKind}
-use Rattle.registry_core.specs.declared.kind.PrimitiveKind.TheVariants as K
-use Rattle.registry_core.specs.declared.primitive.Primitive.{Primitive}
-use Rattle.registry_core.specs.declared.definition.TypeDef.{TypeDef}
-use Rattle.registry_core.specs.declared.definition.TypeDef.TheVariants as Def
-use Rattle.registry_core.specs.declared.type_info.TypeInfo.{TypeInfo}
+use Rattle.types_core.specs.Kinds.{kind_of, width_bytes}
+use Rattle.types_core.specs.declared.kind.PrimitiveKind.{PrimitiveKind}
+use Rattle.types_core.specs.declared.kind.PrimitiveKind.TheVariants as K
+use Rattle.types_core.specs.declared.primitive.Primitive.{Primitive}
+use Rattle.types_core.specs.declared.definition.TypeDef.{TypeDef}
+use Rattle.types_core.specs.declared.definition.TypeDef.TheVariants as Def
+use Rattle.types_core.specs.declared.type_info.TypeInfo.{TypeInfo}
 use Rattle.graph_core.specs.Types.{shape}
 use Rattle.grammar_core.specs.Tree.{Leaf, Branch, Tree}
 use Rattle.grammar_core.specs.Grammar.{Val}

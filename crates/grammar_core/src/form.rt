@@ -3,7 +3,7 @@
 ghost use Rattle.std.specs.Prelude.{◌≡◌};
 ghost use Rattle.grammar_core.specs.Forms.{next_at, next_of_step};
 
-use registry_core::{Primitive, TypeId};
+use types_core::{Primitive, TypeId};
 use scale_core::Target;
 use widths_core::{Checked, TypeStep};
 

@@ -4,11 +4,11 @@ use Rattle.std.proofs.Common.{◌++◌, length, map, get_or, drop, flat_map, Opt
 use Rattle.std.proofs.Common.{sym, ap, ◌∙◌, arith}
 use Rattle.std.specs.List.{AllByRecursion}
 use Rattle.std.proofs.lemmas.List.{at_drop_more, length-append, length-map}
-use Rattle.registry_core.specs.Fits.{FitsArm, FitsList}
-use Rattle.registry_core.specs.declared.definition.Arm.{Arm}
-use Rattle.registry_core.specs.declared.definition.Field.{Field}
-use Rattle.registry_core.specs.declared.definition.TypeDef.{TypeDef}
-use Rattle.registry_core.specs.declared.type_info.TypeInfo.{TypeInfo}
+use Rattle.types_core.specs.Fits.{FitsArm, FitsList}
+use Rattle.types_core.specs.declared.definition.Arm.{Arm}
+use Rattle.types_core.specs.declared.definition.Field.{Field}
+use Rattle.types_core.specs.declared.definition.TypeDef.{TypeDef}
+use Rattle.types_core.specs.declared.type_info.TypeInfo.{TypeInfo}
 use Rattle.graph_core.specs.Types.{shape, field_types}
 use Rattle.graph_core.specs.References.{references, first_unknown, fault_or, unknown_from}
 use Rattle.graph_core.specs.Widths.{greatest}

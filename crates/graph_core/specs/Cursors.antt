@@ -2,9 +2,9 @@
 use Rattle.std.specs.Prelude.{ℕ, zero, suc, List, [], ◌∷◌, ◌++◌, length, drop, flat_map, Option}
 use Rattle.std.specs.Prelude.{Some, None}
 use Rattle.std.specs.Prelude.{slice_get, option_map}
-use Rattle.registry_core.specs.declared.definition.Arm.{Arm}
-use Rattle.registry_core.specs.declared.definition.TypeDef.{TypeDef}
-use Rattle.registry_core.specs.declared.definition.TypeDef.TheVariants as Def
+use Rattle.types_core.specs.declared.definition.Arm.{Arm}
+use Rattle.types_core.specs.declared.definition.TypeDef.{TypeDef}
+use Rattle.types_core.specs.declared.definition.TypeDef.TheVariants as Def
 use Rattle.graph_core.specs.declared.graph.Graph.{Graph}
 use Rattle.graph_core.specs.Types.{ids, field_types}
 

@@ -1,8 +1,8 @@
 -- How many references and arms a registry has, and how many parts a value has at most.
 use Rattle.std.specs.Prelude.{◌≡◌, ℕ, ◌+◌, List, [], ◌∷◌, length, flat_map}
-use Rattle.registry_core.specs.declared.definition.TypeDef.{TypeDef}
-use Rattle.registry_core.specs.declared.definition.TypeDef.TheVariants as Def
-use Rattle.registry_core.specs.declared.type_info.TypeInfo.{TypeInfo}
+use Rattle.types_core.specs.declared.definition.TypeDef.{TypeDef}
+use Rattle.types_core.specs.declared.definition.TypeDef.TheVariants as Def
+use Rattle.types_core.specs.declared.type_info.TypeInfo.{TypeInfo}
 use Rattle.graph_core.specs.declared.sizes.Sizes.{Sizes}
 use Rattle.graph_core.specs.References.{references}
 use Rattle.graph_core.specs.Widths.{width, widest}

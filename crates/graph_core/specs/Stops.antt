@@ -2,8 +2,8 @@
 use Rattle.std.specs.Prelude.{◌≡◌, ℕ, zero, suc, ◌≤◌, List, [], ◌∷◌, ◌++◌, length, flat_map}
 use Rattle.std.specs.Prelude.{reverse, take}
 use Rattle.std.specs.Prelude.{Option, Some, None}
-use Rattle.registry_core.specs.declared.definition.TypeDef.{TypeDef}
-use Rattle.registry_core.specs.declared.type_info.TypeInfo.{TypeInfo}
+use Rattle.types_core.specs.declared.definition.TypeDef.{TypeDef}
+use Rattle.types_core.specs.declared.type_info.TypeInfo.{TypeInfo}
 use Rattle.graph_core.specs.declared.fault.CheckFault.{CheckFault}
 use Rattle.graph_core.specs.declared.fault.CheckFault.TheVariants.{UnknownType, OutOfMemory}
 use Rattle.graph_core.specs.declared.graph.Graph.{Graph}

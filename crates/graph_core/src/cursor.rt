@@ -2,9 +2,9 @@
 
 ghost use Rattle.std.specs.Prelude.{◌≡◌, ◌∷◌, [], option_map, slice_get};
 ghost use Rattle.graph_core.specs.Cursors.{arm_outline, arms_of, last_of, open_references};
-ghost use Rattle.registry_core.specs.declared.definition.TypeDef.TheVariants.{Variant};
+ghost use Rattle.types_core.specs.declared.definition.TypeDef.TheVariants.{Variant};
 
-use registry_core::{Arm, TypeDef, TypeId};
+use types_core::{Arm, TypeDef, TypeId};
 
 /// A position in the reading of definitions.
 #[derive(Clone, Copy)]

@@ -3,7 +3,7 @@
 ghost use Rattle.std.specs.Prelude.{◌≡◌};
 ghost use Rattle.graph_core.specs.Outlines.{outline};
 
-use registry_core::{Primitive, TypeDef};
+use types_core::{Primitive, TypeDef};
 
 /// The outline of a definition: its form without its references, which are read one after the
 /// other.

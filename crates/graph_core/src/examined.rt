@@ -3,7 +3,7 @@
 ghost use Rattle.std.specs.Prelude.{◌≡◌};
 
 use crate::looks::Looks;
-use registry_core::Registry;
+use types_core::Registry;
 
 /// A registry that a graph returned, with the looks that the graph took at it.
 ///

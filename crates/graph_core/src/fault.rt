@@ -3,7 +3,7 @@
 ghost use Rattle.std.specs.Prelude.{◌≡◌};
 ghost use Rattle.graph_core.specs.declared.fault.CheckFault.TheVariants.{OutOfMemory};
 
-use registry_core::TypeId;
+use types_core::TypeId;
 use std::alloc::{AllocError, AllocFailed};
 
 /// The reason why a registry is rejected.

@@ -2,8 +2,8 @@
 
 ghost use Rattle.std.specs.Prelude.{◌≡◌, ◌<◌, [], ◌∷◌, length, option_map, OnOk, IfOk, IfErr};
 ghost use Rattle.std.specs.Prelude.{IfSome, slice_index};
-ghost use Rattle.registry_core.specs.Fits.{FitsRegistry};
-ghost use Rattle.registry_core.specs.declared.definition.TypeDef.{TypeDef};
+ghost use Rattle.types_core.specs.Fits.{FitsRegistry};
+ghost use Rattle.types_core.specs.declared.definition.TypeDef.{TypeDef};
 ghost use Rattle.graph_core.specs.Cursors.{current, next_reference, next_arm, arm_outline};
 ghost use Rattle.graph_core.specs.Cursors.{parts_left};
 ghost use Rattle.graph_core.specs.Graphs.{IsLinked, IsOpened, IsGlanced, IsListed, IsMeasured};
@@ -22,7 +22,7 @@ use crate::fault::CheckFault;
 use crate::link_stop::LinkStop;
 use crate::looks::Looks;
 use crate::sizes::{Sizes, sizes_in};
-use registry_core::{Registry, TypeDef};
+use types_core::{Registry, TypeDef};
 use std::alloc::{AllocError, Global};
 
 /// A reference in the list of the references to one type.

@@ -5,7 +5,7 @@ ghost use Rattle.graph_core.specs.Stops.{fault_in};
 ghost use Rattle.graph_core.specs.declared.link_stop.LinkStop.TheVariants.{Memory};
 
 use crate::fault::CheckFault;
-use registry_core::TypeId;
+use types_core::TypeId;
 use std::alloc::{AllocError, AllocFailed};
 
 /// The reason why the linking of a type stopped.

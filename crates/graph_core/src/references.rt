@@ -7,7 +7,7 @@ ghost use Rattle.graph_core.specs.Stops.{IsUnderWay, HasFewLooksUntil};
 ghost use Rattle.graph_core.specs.Unknown.{FindsUnknown, FindsUnknownPart};
 
 use crate::graph::Graph;
-use registry_core::TypeId;
+use types_core::TypeId;
 
 /// A reference to a type, and the type that contains it.
 #[derive(Clone, Copy)]

@@ -3,14 +3,14 @@
 //! They are counted before memory is allocated for them.
 
 ghost use Rattle.std.specs.Prelude.{◌≡◌, ◌<◌, ◌^◌, length, flat_map, map, IfSome};
-ghost use Rattle.registry_core.specs.Fits.{FitsList, FitsArm, FitsDefinition, FitsRegistry};
+ghost use Rattle.types_core.specs.Fits.{FitsList, FitsArm, FitsDefinition, FitsRegistry};
 ghost use Rattle.graph_core.specs.Cursors.{arm_references};
 ghost use Rattle.graph_core.specs.Graphs.{AreSeen, IsMeasured, IsUnread};
 ghost use Rattle.graph_core.specs.Sizes.{AreSizes, AreSizesOf};
 ghost use Rattle.graph_core.specs.Widths.{greatest};
 
 use crate::graph::Graph;
-use registry_core::{Arm, TypeDef};
+use types_core::{Arm, TypeDef};
 
 /// The numbers of references and arms of types, and the greatest number of parts of a value of one
 /// of them.

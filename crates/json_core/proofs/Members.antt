@@ -3,7 +3,7 @@ use Rattle.std.proofs.Common.{◌≡◌, ℕ, List, [], ◌∷◌, length, refl}
 use Rattle.serde_json.specs.Data.{Items, Members}
 use Rattle.serde_json.specs.View.{items_view}
 use Rattle.serde_json.specs.declared.value.Value.{Value}
-use Rattle.registry_core.specs.declared.definition.Field.{Field}
+use Rattle.types_core.specs.declared.definition.Field.{Field}
 use Rattle.json_core.specs.Json.{with_members}
 use Rattle.json_core.specs.Tokens.{names_of}
 

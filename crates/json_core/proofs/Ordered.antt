@@ -13,13 +13,13 @@ use Rattle.std.specs.Ordering.{match_ordering}
 use Rattle.serde_json.specs.Data.{Data, null, Items, Members, no_members, member, put, object}
 use Rattle.serde_json.specs.Data.{array}
 use Rattle.serde_json.specs.View.{items_of}
-use Rattle.registry_core.specs.declared.definition.Field.{Field}
-use Rattle.registry_core.specs.declared.keys.Keys.{Keys}
-use Rattle.registry_core.specs.declared.keys.Keys.TheVariants as keys
+use Rattle.types_core.specs.declared.definition.Field.{Field}
+use Rattle.types_core.specs.declared.keys.Keys.{Keys}
+use Rattle.types_core.specs.declared.keys.Keys.TheVariants as keys
 use Rattle.json_core.specs.Json.{with_name, names, is_new, all_differ, with_members, named_json}
 use Rattle.json_core.specs.Json.{fields_json}
-use Rattle.registry_core.specs.Keys.{is_there, order_from, key_order, AreKeys}
-use Rattle.registry_core.proofs.KeyOrders.{Entries, insert, is_there_cons}
+use Rattle.types_core.specs.Keys.{is_there, order_from, key_order, AreKeys}
+use Rattle.types_core.proofs.KeyOrders.{Entries, insert, is_there_cons}
 use Rattle.json_core.specs.Tokens.{data_at, name_at, members_at, members_in_order, AreNamed}
 use Rattle.json_core.specs.Tokens.{names_of}
 

@@ -10,7 +10,7 @@ use Rattle.json.specs.Tree.{json_tokens, items_tokens, members_tokens}
 use Rattle.serde_json.specs.Data.{Data, Items, Members, no_items, item, no_members, member, array}
 use Rattle.serde_json.specs.Data.{object}
 use Rattle.serde_json.specs.Written.{outline, items_outline, members_outline}
-use Rattle.registry_core.specs.declared.definition.Field.{Field}
+use Rattle.types_core.specs.declared.definition.Field.{Field}
 use Rattle.token_core.specs.Tokens.{Text, prints}
 use Rattle.json_core.specs.Tokens.{name_at, data_at, members_at, members_in_order}
 use Rattle.token_core.proofs.Outputs.{prints_again}

@@ -5,7 +5,7 @@ use Rattle.std.specs.List.{AllByRecursion}
 use Rattle.json.specs.Tree.{json_tokens}
 use Rattle.serde_json.specs.Data.{Data, null, Members, no_members, member}
 use Rattle.serde_json.specs.Written.{outline}
-use Rattle.registry_core.specs.declared.definition.Field.{Field}
+use Rattle.types_core.specs.declared.definition.Field.{Field}
 use Rattle.token_core.specs.Tokens.{Text, AddsTokens}
 
 -- the tokens of a value's JSON are added

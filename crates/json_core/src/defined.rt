@@ -3,12 +3,12 @@
 ghost use Rattle.std.specs.Prelude.{◌≡◌, option_map};
 ghost use Rattle.widths_core.specs.Targets.{compact_target_of};
 ghost use Rattle.graph_core.specs.Types.{shape};
-ghost use Rattle.registry_core.specs.Kinds.{kind_of};
+ghost use Rattle.types_core.specs.Kinds.{kind_of};
 ghost use Rattle.json_core.specs.Defined.{kind_json, integer_json, compact_json, defined_arm};
 ghost use Rattle.json_core.specs.Defined.{composite_fields};
 
 use crate::integer_json::IntegerJson;
-use registry_core::{Arm, Fields, Primitive, PrimitiveKind, TypeDef};
+use types_core::{Arm, Fields, Primitive, PrimitiveKind, TypeDef};
 use value_core::NodeRef;
 
 /// Returns how integers of the primitive stand in JSON.

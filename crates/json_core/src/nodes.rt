@@ -12,7 +12,7 @@ use crate::defined::{compact_json, composite_fields, defined_arm, integer_json};
 use crate::fields::fields_json;
 use crate::hexadecimal::bytes_json;
 use crate::integers::{signed_json, unsigned_json, wide_json};
-use registry_core::Arm;
+use types_core::Arm;
 use serde_json::{Map, Value};
 use std::alloc::{AllocError, Allocator, Global};
 use value_core::{NodeRef, What};

@@ -13,7 +13,7 @@ ghost use Rattle.serde_json.specs.Written.{items_outline};
 ghost use Rattle.node_core.specs.Shown.{children_of};
 ghost use Rattle.json_core.specs.Defined.{unsigned_by, signed_by};
 ghost use Rattle.json_core.specs.Json.{bytes_json, wide_json, json_seen, fields_json};
-ghost use Rattle.registry_core.specs.Keys.{key_order};
+ghost use Rattle.types_core.specs.Keys.{key_order};
 ghost use Rattle.token_core.specs.Tokens.{AddsTokens, prints};
 ghost use Rattle.json_core.specs.Tokens.{AddsValue, data_at};
 ghost use Rattle.json_core.specs.declared.integer_json.IntegerJson.TheVariants.{Number};
@@ -21,7 +21,7 @@ ghost use Rattle.json_core.specs.declared.integer_json.IntegerJson.TheVariants.{
 use crate::defined::{compact_json, composite_fields, defined_arm, integer_json};
 use crate::fields::name_of;
 use crate::integer_json::IntegerJson;
-use registry_core::{Arm, Field, Fields, Keys};
+use types_core::{Arm, Field, Fields, Keys};
 use std::alloc::{AllocError, Allocator, Global};
 use token_core::{Escapes, Output};
 use value_core::{NodeRef, What};

@@ -1,6 +1,6 @@
 -- The nodes that were added before a fault are a begun tree.
 use Rattle.std.specs.Prelude.{◌≡◌, ℕ, List, [], ◌++◌, Some, Err}
-use Rattle.registry_core.specs.declared.type_info.TypeInfo.{TypeInfo}
+use Rattle.types_core.specs.declared.type_info.TypeInfo.{TypeInfo}
 use Rattle.grammar_core.specs.Begun.{Begun, IsPart, Grows, begun_preorder}
 use Rattle.value_core.specs.Built.{Entry}
 use Rattle.machine_core.specs.Reported.{Fault, reported, shown, reported_at}

@@ -3,7 +3,7 @@
 use Rattle.std.specs.Prelude.{true, ◌≡◌, ℕ, zero, suc, ◌+◌, ◌≤◌, ◌*◌, List, ◌++◌, length}
 use Rattle.std.specs.Prelude.{Option, Some, Ok, Err}
 use Rattle.scale_core.specs.Read.{Read}
-use Rattle.registry_core.specs.declared.type_info.TypeInfo.{TypeInfo}
+use Rattle.types_core.specs.declared.type_info.TypeInfo.{TypeInfo}
 use Rattle.graph_core.specs.Widths.{widest}
 use Rattle.widths_core.specs.Classes.{is_finite}
 use Rattle.widths_core.specs.Layouts.{layout}

@@ -1,7 +1,7 @@
 -- A decoder as a machine over lists: nodes so far, and parts that are still to be read.
 use Rattle.std.specs.Prelude.{ℕ, suc, ◌+◌, ◌*◌, List, [], ◌∷◌, length, Bool, true, false}
 use Rattle.scale_core.specs.declared.fault.Reason.TheVariants as scale
-use Rattle.registry_core.specs.declared.type_info.TypeInfo.{TypeInfo}
+use Rattle.types_core.specs.declared.type_info.TypeInfo.{TypeInfo}
 use Rattle.grammar_core.specs.Reading.{Refusal, basic}
 use Rattle.grammar_core.specs.Parts.{Part, times}
 use Rattle.value_core.specs.Built.{Entry}

@@ -3,7 +3,7 @@ use Rattle.std.specs.Prelude.{◌≡◌, ◌≢◌, ℕ, suc, ◌+◌, ◌<◌, 
 use Rattle.std.specs.Prelude.{Ok, Err, nat_lt, if◌then◌else◌, ◌⊎◌}
 use Rattle.scale_core.specs.Read.{Read, place, mode_len}
 use Rattle.scale_core.specs.declared.fault.Reason.TheVariants as scale
-use Rattle.registry_core.specs.declared.type_info.TypeInfo.{TypeInfo}
+use Rattle.types_core.specs.declared.type_info.TypeInfo.{TypeInfo}
 use Rattle.grammar_core.specs.Tree.{Tree, levels}
 use Rattle.grammar_core.specs.Grammar.{Val}
 use Rattle.grammar_core.specs.Reading.{value_at, Refusal, basic, no_such_variant, too_deep}

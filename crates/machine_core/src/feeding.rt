@@ -19,8 +19,8 @@ use crate::turned::{Stopped, Tried};
 use count_core::Count;
 use form_core::PlainForm::Unsigned;
 use form_core::{BytesForm, LeafForm, bytes_form, need};
-use registry_core::IntegerWidth::{Bits8, Bits16, Bits32, Bits64, Bits128};
-use registry_core::Primitive;
+use types_core::IntegerWidth::{Bits8, Bits16, Bits32, Bits64, Bits128};
+use types_core::Primitive;
 use std::alloc::{AllocError, Allocator};
 use value_core::{Form, Leaf, Next, RunKind};
 

@@ -10,7 +10,7 @@ use Rattle.scale_core.specs.Compact.{compact}
 use Rattle.scale_core.specs.Number.{le_bytes, bool_byte}
 use Rattle.scale_core.proofs.Numbers.{length-le_bytes}
 use Rattle.scale_core.proofs.Fronts.{take-to_le_bytes_16, to_le_bytes_4}
-use Rattle.registry_core.specs.declared.definition.TypeDef.{TypeDef}
+use Rattle.types_core.specs.declared.definition.TypeDef.{TypeDef}
 use Rattle.grammar_core.specs.Spelled.{width_of, word, index_of, index_byte, length_bytes}
 use Rattle.node_core.specs.Encoding.{Starts}
 use Rattle.node_core.specs.declared.node.Content.{Content}

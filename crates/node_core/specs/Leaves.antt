@@ -4,7 +4,7 @@ use Rattle.std.specs.Int.{w128}
 use Rattle.grammar_core.specs.Preorder as head
 use Rattle.grammar_core.specs.Tree as tree
 use Rattle.grammar_core.specs.Preorder.{Head}
-use Rattle.registry_core.specs.declared.type_id.TypeId.{TypeId}
+use Rattle.types_core.specs.declared.type_id.TypeId.{TypeId}
 use Rattle.widths_core.specs.declared.run_kind.RunKind.{RunKind}
 use Rattle.widths_core.specs.declared.run_kind.RunKind.TheVariants as kind
 use Rattle.node_core.specs.Shown.{head_shown, IsInPool, kept_bytes}

@@ -1,7 +1,7 @@
 -- The remaining parts of an open node, as the node keeps them.
 use Rattle.std.specs.Prelude.{ℕ, zero, suc, ◌+◌, ◌-◌, ◌<◌, ◌≤◌, List, [], ◌∷◌, length}
 use Rattle.std.specs.Prelude.{Bool, true, false, Option, Some, None, slice_get}
-use Rattle.registry_core.specs.declared.type_info.TypeInfo.{TypeInfo}
+use Rattle.types_core.specs.declared.type_info.TypeInfo.{TypeInfo}
 use Rattle.widths_core.specs.Steps.{references_of}
 use Rattle.grammar_core.specs.Parts.{Part, each, times}
 use Rattle.node_core.specs.declared.remaining.Remaining.{Remaining}

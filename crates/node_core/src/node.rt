@@ -3,7 +3,7 @@
 ghost use Rattle.std.specs.Prelude.{◌≡◌};
 ghost use Rattle.node_core.specs.Shown.{size_shown, closed_as};
 
-use registry_core::TypeId;
+use types_core::TypeId;
 
 /// The number of bytes of memory that a node of a value or a builder takes.
 ///

@@ -8,7 +8,7 @@ use crate::children::Children;
 use crate::node::{Content, Node};
 use crate::pool::long_at;
 use crate::what::What;
-use registry_core::TypeId;
+use types_core::TypeId;
 use std::marker::Model;
 use widths_core::Checked;
 

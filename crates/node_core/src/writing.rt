@@ -14,7 +14,7 @@ ghost use Rattle.node_core.specs.Failed.{Meets};
 use crate::node::{Content, Node};
 use crate::pool::long_at;
 use crate::value::Value;
-use registry_core::{Primitive, PrimitiveKind, TypeDef, TypeId};
+use types_core::{Primitive, PrimitiveKind, TypeDef, TypeId};
 use scale_core::{Sink, SinkFault, WriteOnce, put_compact};
 use std::alloc::Allocator;
 use widths_core::Checked;

@@ -10,7 +10,7 @@ use Rattle.grammar_core.specs.Preorder.{Head}
 use Rattle.grammar_core.specs.Tree as tree
 use Rattle.node_core.specs.Shown.{Seen}
 use Rattle.value_core.specs.Built.{Built, finished, with_arm_at, with_fields, with_leaf, with_list}
-use Rattle.registry_core.specs.declared.type_info.TypeInfo.{TypeInfo}
+use Rattle.types_core.specs.declared.type_info.TypeInfo.{TypeInfo}
 use Rattle.value_core.specs.Walked.{start_of}
 use Rattle.value_core.specs.Refusals.{in_range, is_complete, judged, judged_arm_at, suits_bool}
 use Rattle.value_core.specs.Refusals.{suits_bytes, suits_char, suits_compact, suits_count}

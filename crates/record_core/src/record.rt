@@ -5,7 +5,7 @@ ghost use Rattle.node_core.specs.Shown.{IsInPool, cell_shown};
 ghost use Rattle.record_core.specs.Records.{number_of, record_of};
 
 use node_core::{Content, Node, long_at};
-use registry_core::TypeId;
+use types_core::TypeId;
 
 /// The kind of the one value of a type that takes no bytes.
 pub const EMPTY: u32 = 0;

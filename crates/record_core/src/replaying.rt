@@ -19,7 +19,7 @@ use crate::record::{
     ARM, BOOL, BYTES, CHAR, COMPACT, COUNT, EMPTY, FIELDS, LIST, Record, SIGNED, TEXT, UNSIGNED,
     WIDE,
 };
-use registry_core::TypeId;
+use types_core::TypeId;
 use simdutf8::compat::from_utf8;
 use std::alloc::Allocator;
 use value_core::{BuildFault, Builder, Value};

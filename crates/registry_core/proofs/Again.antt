@@ -10,16 +10,17 @@ use Rattle.scale_core.specs.Read.{number_at}
 use Rattle.scale_core.specs.declared.compact.Target.TheVariants.{U32 as u32_target}
 use Rattle.scale_core.proofs.Numbers.{length-le_bytes, number-le_bytes}
 use Rattle.scale_core.proofs.Again.{compact_again, text_again, number_again}
-use Rattle.registry_core.specs.declared.primitive.Primitive.{Primitive}
-use Rattle.registry_core.specs.declared.primitive.Primitive.TheVariants as P
-use Rattle.registry_core.specs.declared.definition.TypeDef.{TypeDef}
-use Rattle.registry_core.specs.declared.definition.TypeDef.TheVariants as def
-use Rattle.registry_core.specs.declared.type_info.TypeInfo.{TypeInfo}
-use Rattle.registry_core.specs.Fits.{FitsList, FitsText, FitsTexts, FitsOption, FitsId, FitsParam}
-use Rattle.registry_core.specs.Fits.{FitsField, FitsArm, FitsDefinition, FitsType, FitsRegistry}
+use Rattle.types_core.specs.declared.primitive.Primitive.{Primitive}
+use Rattle.types_core.specs.declared.primitive.Primitive.TheVariants as P
+use Rattle.types_core.specs.declared.definition.TypeDef.{TypeDef}
+use Rattle.types_core.specs.declared.definition.TypeDef.TheVariants as def
+use Rattle.types_core.specs.declared.type_info.TypeInfo.{TypeInfo}
+use Rattle.types_core.specs.Fits.{FitsList, FitsText, FitsTexts, FitsOption, FitsId, FitsParam}
+use Rattle.types_core.specs.Fits.{FitsField, FitsArm, FitsDefinition, FitsType, FitsRegistry}
 use Rattle.registry_core.specs.declared.version.Version.{Version}
 use Rattle.registry_core.specs.declared.version.Version.TheVariants.{V14, V15}
-use Rattle.registry_core.specs.Bytes.{primitive_byte, magic, version_byte}
+use Rattle.types_core.specs.Bytes.{primitive_byte}
+use Rattle.registry_core.specs.Bytes.{magic, version_byte}
 use Rattle.registry_core.specs.Spelling.{sequence, text, texts, option, type_id, param, field, arm}
 use Rattle.registry_core.specs.Spelling.{definition, type_info, types_from, spelling}
 use Rattle.registry_core.specs.Reading.{Reader, length_at, repeated, sequence_at, string_at}

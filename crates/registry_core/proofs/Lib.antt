@@ -12,8 +12,5 @@ pub mod Splits
 pub mod Steady
 pub mod SteadyMetadata
 pub mod Whole
-pub mod Widths
 pub mod Positions
 pub mod Rows
-pub mod KeyMaps
-pub mod KeyOrders

@@ -5,7 +5,7 @@ use Rattle.scale_core.specs.Read.{Read, ◌>>=◌}
 use Rattle.registry_core.specs.declared.fault.RegistryReason.{RegistryReason}
 use Rattle.registry_core.specs.declared.reading.read_stop.ReadStop.{ReadStop}
 use Rattle.registry_core.specs.declared.reading.read_stop.ReadStop.TheVariants.{Memory, Fault}
-use Rattle.registry_core.specs.declared.type_info.TypeInfo.{TypeInfo}
+use Rattle.types_core.specs.declared.type_info.TypeInfo.{TypeInfo}
 use Rattle.registry_core.specs.Gives.{StopsReading}
 use Rattle.registry_core.specs.Reading.{Reader, repeated, id_at, type_info_at, types_at}
 

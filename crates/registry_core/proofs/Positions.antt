@@ -3,7 +3,7 @@ use Rattle.std.proofs.Common.{◌≡◌, ℕ, ◌+◌, ◌<◌, List, [], ◌∷
 use Rattle.std.proofs.Common.{append_assoc, arith, length-take}
 use Rattle.std.proofs.lemmas.List.{append-nil, take_more}
 use Rattle.scale_core.specs.Compact.{compact}
-use Rattle.registry_core.specs.declared.type_info.TypeInfo.{TypeInfo}
+use Rattle.types_core.specs.declared.type_info.TypeInfo.{TypeInfo}
 use Rattle.registry_core.specs.Spelling.{type_info, types_from}
 
 -- a type more at the end adds its position and its spelling

@@ -15,13 +15,13 @@ use Rattle.scale_core.specs.declared.fault.Reason.{Reason}
 use Rattle.scale_core.proofs.Numbers.{rest_bytes, front_bytes, le_bytes-number, number-bound}
 use Rattle.scale_core.proofs.Results.{Takes, cond_takes, then_takes, compact_takes, text_takes}
 use Rattle.scale_core.proofs.Results.{done_is}
-use Rattle.registry_core.specs.declared.definition.TypeDef.{TypeDef}
-use Rattle.registry_core.specs.declared.definition.TypeDef.TheVariants as def
+use Rattle.types_core.specs.declared.definition.TypeDef.{TypeDef}
+use Rattle.types_core.specs.declared.definition.TypeDef.TheVariants as def
 use Rattle.registry_core.specs.declared.fault.RegistryReason.{RegistryReason}
 use Rattle.registry_core.specs.declared.fault.RegistryReason.TheVariants as registry
-use Rattle.registry_core.specs.Fits.{FitsList, FitsText, FitsTexts, FitsOption, FitsId, FitsParam}
-use Rattle.registry_core.specs.Fits.{FitsField, FitsArm, FitsDefinition, FitsType, FitsRegistry}
-use Rattle.registry_core.specs.Bytes.{primitive_byte}
+use Rattle.types_core.specs.Fits.{FitsList, FitsText, FitsTexts, FitsOption, FitsId, FitsParam}
+use Rattle.types_core.specs.Fits.{FitsField, FitsArm, FitsDefinition, FitsType, FitsRegistry}
+use Rattle.types_core.specs.Bytes.{primitive_byte}
 use Rattle.registry_core.specs.Spelling.{sequence, text, texts, option, type_id, param, field, arm}
 use Rattle.registry_core.specs.Spelling.{definition, type_info, types_from, spelling}
 use Rattle.registry_core.specs.Reading.{Reader, lifted, length_at, repeated, sequence_at, string_at}

@@ -8,7 +8,7 @@ use Rattle.std.proofs.lemmas.List.{append-nil}
 use Rattle.scale_core.specs.Number.{AreBytes}
 use Rattle.scale_core.proofs.Results.{Takes, cond_takes}
 use Rattle.registry_core.specs.declared.fault.RegistryReason.TheVariants as registry
-use Rattle.registry_core.specs.Fits.{FitsRegistry}
+use Rattle.types_core.specs.Fits.{FitsRegistry}
 use Rattle.registry_core.specs.declared.version.Version.{Version}
 use Rattle.registry_core.specs.declared.version.Version.TheVariants.{V14, V15}
 use Rattle.registry_core.specs.Bytes.{magic, version_byte, version_of}

@@ -8,12 +8,12 @@ use Rattle.scale_core.specs.Number.{le_bytes}
 use Rattle.scale_core.specs.Read.{◌>>=◌, number_at}
 use Rattle.scale_core.proofs.Numbers.{length-le_bytes, number-le_bytes}
 use Rattle.scale_core.proofs.Again.{number_again}
-use Rattle.registry_core.specs.declared.definition.TypeDef.{TypeDef}
-use Rattle.registry_core.specs.declared.definition.TypeDef.TheVariants as def
+use Rattle.types_core.specs.declared.definition.TypeDef.{TypeDef}
+use Rattle.types_core.specs.declared.definition.TypeDef.TheVariants as def
 use Rattle.registry_core.specs.declared.fault.RegistryReason.TheVariants as registry
-use Rattle.registry_core.specs.Fits.{FitsList, FitsText, FitsTexts, FitsOption, FitsId, FitsParam}
-use Rattle.registry_core.specs.Fits.{FitsField, FitsArm, FitsDefinition}
-use Rattle.registry_core.specs.Bytes.{primitives}
+use Rattle.types_core.specs.Fits.{FitsList, FitsText, FitsTexts, FitsOption, FitsId, FitsParam}
+use Rattle.types_core.specs.Fits.{FitsField, FitsArm, FitsDefinition}
+use Rattle.types_core.specs.Bytes.{primitives}
 use Rattle.registry_core.specs.Spelling.{sequence, text, texts, option, type_id, param, field, arm}
 use Rattle.registry_core.specs.Spelling.{definition}
 use Rattle.registry_core.specs.Reading.{Reader, lifted, string_at, texts_at, option_at}

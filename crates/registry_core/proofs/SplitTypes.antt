@@ -11,9 +11,9 @@ use Rattle.scale_core.specs.Compact.{compact}
 use Rattle.scale_core.specs.Read.{Read, ◌>>=◌}
 use Rattle.registry_core.specs.declared.fault.RegistryReason.{RegistryReason}
 use Rattle.registry_core.specs.declared.fault.RegistryReason.TheVariants as registry
-use Rattle.registry_core.specs.declared.type_info.TypeInfo.{TypeInfo}
+use Rattle.types_core.specs.declared.type_info.TypeInfo.{TypeInfo}
 use Rattle.registry_core.specs.declared.version.Version.{Version}
-use Rattle.registry_core.specs.Fits.{FitsType}
+use Rattle.types_core.specs.Fits.{FitsType}
 use Rattle.registry_core.specs.Bytes.{magic, version_of}
 use Rattle.registry_core.specs.Spelling.{type_info, types_from}
 use Rattle.registry_core.specs.Reading.{length_at, named, type_info_at, types_at}

@@ -10,11 +10,11 @@ use Rattle.scale_core.specs.declared.fault.Reason.{Reason}
 use Rattle.scale_core.specs.declared.fault.Reason.TheVariants as scale
 use Rattle.scale_core.proofs.Results.{Extends, bind_extends, cond_extends, compact_extends}
 use Rattle.scale_core.proofs.Results.{text_extends}
-use Rattle.registry_core.specs.declared.definition.TypeDef.{TypeDef}
-use Rattle.registry_core.specs.declared.definition.TypeDef.TheVariants as def
+use Rattle.types_core.specs.declared.definition.TypeDef.{TypeDef}
+use Rattle.types_core.specs.declared.definition.TypeDef.TheVariants as def
 use Rattle.registry_core.specs.declared.fault.RegistryReason.{RegistryReason}
 use Rattle.registry_core.specs.declared.fault.RegistryReason.TheVariants as registry
-use Rattle.registry_core.specs.Bytes.{primitives}
+use Rattle.types_core.specs.Bytes.{primitives}
 use Rattle.registry_core.specs.Laws.{IsAfter}
 use Rattle.registry_core.specs.Reading.{Reader, registry_reason_of, lifted, length_at, repeated}
 use Rattle.registry_core.specs.Reading.{sequence_at}

@@ -9,7 +9,7 @@ use Rattle.registry_core.specs.declared.fault.RegistryReason.{RegistryReason}
 use Rattle.registry_core.specs.declared.reading.read_stop.ReadStop.{ReadStop}
 use Rattle.registry_core.specs.declared.reading.read_stop.ReadStop.TheVariants.{Memory, Fault}
 use Rattle.registry_core.specs.Answers.{FaultAnswers, out_of_memory}
-use Rattle.registry_core.specs.Fits.{FitsRegistry}
+use Rattle.types_core.specs.Fits.{FitsRegistry}
 use Rattle.registry_core.specs.Gives.{StopsReading, IsWithin, fault_of}
 use Rattle.registry_core.specs.Reading.{Reader, registry_at, metadata_at}
 use Rattle.registry_core.specs.Laws.{FitsMetadata, ReadIsSpelled, SpelledIsRead, metadata_of}

@@ -4,7 +4,7 @@ use Rattle.scale_core.specs.Read.{Read, place}
 use Rattle.registry_core.specs.declared.fault.RegistryFault.{RegistryFault}
 use Rattle.registry_core.specs.declared.fault.RegistryReason.{RegistryReason}
 use Rattle.registry_core.specs.declared.fault.RegistryReason.TheVariants.{OutOfMemory}
-use Rattle.registry_core.specs.declared.type_info.TypeInfo.{TypeInfo}
+use Rattle.types_core.specs.declared.type_info.TypeInfo.{TypeInfo}
 use Rattle.registry_core.specs.declared.version.Version.{Version}
 
 -- the answer if an allocation failed

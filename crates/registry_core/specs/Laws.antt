@@ -3,11 +3,11 @@ use Rattle.std.specs.Prelude.{◌≡◌, ◌≢◌, ℕ, List, [], ◌++◌, Ok,
 use Rattle.scale_core.specs.Number.{AreBytes}
 use Rattle.registry_core.specs.declared.fault.RegistryReason.{RegistryReason}
 use Rattle.registry_core.specs.declared.fault.RegistryReason.TheVariants.{Truncated, OutOfMemory}
-use Rattle.registry_core.specs.declared.type_info.TypeInfo.{TypeInfo}
+use Rattle.types_core.specs.declared.type_info.TypeInfo.{TypeInfo}
 use Rattle.registry_core.specs.declared.version.Version.{Version}
 use Rattle.registry_core.specs.Spelling.{metadata}
 use Rattle.registry_core.specs.Reading.{Reader}
-use Rattle.registry_core.specs.Fits.{FitsRegistry}
+use Rattle.types_core.specs.Fits.{FitsRegistry}
 
 -- the part of metadata that is read: a version, and the registry after it
 abbrev pub FitsMetadata : List TypeInfo × Version → Type 0

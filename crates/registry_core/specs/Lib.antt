@@ -1,12 +1,9 @@
 pub mod Answers
 pub mod Bytes
-pub mod Fits
 pub mod Gives
-pub mod Kinds
 pub mod Laws
 pub mod Reading
 pub mod Rows
 pub mod Spelling
 pub mod Splits
 pub mod Names
-pub mod Keys

@@ -5,18 +5,19 @@ use Rattle.scale_core.specs.Read.{Read, ◌>>=◌, compact_at, text_at, number_a
 use Rattle.scale_core.specs.declared.compact.Target.TheVariants.{U32 as u32_target}
 use Rattle.scale_core.specs.declared.fault.Reason.{Reason}
 use Rattle.scale_core.specs.declared.fault.Reason.TheVariants as scale
-use Rattle.registry_core.specs.declared.definition.Field.{Field}
-use Rattle.registry_core.specs.declared.definition.Arm.{Arm}
-use Rattle.registry_core.specs.declared.definition.TypeDef.{TypeDef}
-use Rattle.registry_core.specs.declared.definition.TypeDef.TheVariants as def
-use Rattle.registry_core.specs.declared.type_info.Param.{Param}
-use Rattle.registry_core.specs.declared.type_info.TypeInfo.{TypeInfo}
-use Rattle.registry_core.specs.declared.type_id.TypeId.{TypeId}
-use Rattle.registry_core.specs.declared.primitive.Primitive.{Primitive}
+use Rattle.types_core.specs.declared.definition.Field.{Field}
+use Rattle.types_core.specs.declared.definition.Arm.{Arm}
+use Rattle.types_core.specs.declared.definition.TypeDef.{TypeDef}
+use Rattle.types_core.specs.declared.definition.TypeDef.TheVariants as def
+use Rattle.types_core.specs.declared.type_info.Param.{Param}
+use Rattle.types_core.specs.declared.type_info.TypeInfo.{TypeInfo}
+use Rattle.types_core.specs.declared.type_id.TypeId.{TypeId}
+use Rattle.types_core.specs.declared.primitive.Primitive.{Primitive}
 use Rattle.registry_core.specs.declared.fault.RegistryReason.{RegistryReason}
 use Rattle.registry_core.specs.declared.fault.RegistryReason.TheVariants as registry
 use Rattle.registry_core.specs.declared.version.Version.{Version}
-use Rattle.registry_core.specs.Bytes.{primitives, magic, version_of}
+use Rattle.types_core.specs.Bytes.{primitives}
+use Rattle.registry_core.specs.Bytes.{magic, version_of}
 
 -- why a length, an id or a text is rejected, as a reason of the registry; the last two don't occur,
 -- by the contracts of `read_compact` and `read_text`

@@ -1,10 +1,10 @@
 -- Worked registries: read, and spelled again.
 use Rattle.std.specs.Prelude.{◌≡◌, ℕ, zero, suc, ◌+◌, ◌*◌, List, [], ◌∷◌, ◌++◌, length, Ok, Err}
 use Rattle.scale_core.specs.Read.{Read}
-use Rattle.registry_core.specs.declared.definition.TypeDef.{TypeDef}
-use Rattle.registry_core.specs.declared.definition.TypeDef.TheVariants as def
-use Rattle.registry_core.specs.declared.primitive.Primitive.TheVariants.{U8}
-use Rattle.registry_core.specs.declared.type_info.TypeInfo.{TypeInfo}
+use Rattle.types_core.specs.declared.definition.TypeDef.{TypeDef}
+use Rattle.types_core.specs.declared.definition.TypeDef.TheVariants as def
+use Rattle.types_core.specs.declared.primitive.Primitive.TheVariants.{U8}
+use Rattle.types_core.specs.declared.type_info.TypeInfo.{TypeInfo}
 use Rattle.registry_core.specs.declared.fault.RegistryReason.{RegistryReason}
 use Rattle.registry_core.specs.declared.fault.RegistryReason.TheVariants.{BadUtf8, CompactTooLarge}
 use Rattle.registry_core.specs.declared.fault.RegistryReason.TheVariants.{IdOutOfPlace, NotMetadata}

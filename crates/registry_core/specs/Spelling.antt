@@ -2,15 +2,16 @@
 use Rattle.std.specs.Prelude.{ℕ, ◌+◌, List, [], ◌∷◌, ◌++◌, length, Option, Some, None, flat_map}
 use Rattle.scale_core.specs.Number.{le_bytes}
 use Rattle.scale_core.specs.Compact.{compact}
-use Rattle.registry_core.specs.declared.definition.Field.{Field}
-use Rattle.registry_core.specs.declared.definition.Arm.{Arm}
-use Rattle.registry_core.specs.declared.definition.TypeDef.{TypeDef}
-use Rattle.registry_core.specs.declared.definition.TypeDef.TheVariants as def
-use Rattle.registry_core.specs.declared.type_info.Param.{Param}
-use Rattle.registry_core.specs.declared.type_info.TypeInfo.{TypeInfo}
-use Rattle.registry_core.specs.declared.type_id.TypeId.{TypeId}
+use Rattle.types_core.specs.declared.definition.Field.{Field}
+use Rattle.types_core.specs.declared.definition.Arm.{Arm}
+use Rattle.types_core.specs.declared.definition.TypeDef.{TypeDef}
+use Rattle.types_core.specs.declared.definition.TypeDef.TheVariants as def
+use Rattle.types_core.specs.declared.type_info.Param.{Param}
+use Rattle.types_core.specs.declared.type_info.TypeInfo.{TypeInfo}
+use Rattle.types_core.specs.declared.type_id.TypeId.{TypeId}
 use Rattle.registry_core.specs.declared.version.Version.{Version}
-use Rattle.registry_core.specs.Bytes.{primitive_byte, magic, version_byte}
+use Rattle.types_core.specs.Bytes.{primitive_byte}
+use Rattle.registry_core.specs.Bytes.{magic, version_byte}
 
 -- a sequence: its length, and its elements
 abbrev pub sequence : {X : Type 0} → (X → List ℕ) → List X → List ℕ

@@ -9,9 +9,9 @@ use Rattle.scale_core.specs.Number.{AreBytes, le_bytes}
 use Rattle.scale_core.specs.Compact.{compact}
 use Rattle.registry_core.specs.declared.fault.RegistryReason.{RegistryReason}
 use Rattle.registry_core.specs.declared.fault.RegistryReason.TheVariants as registry
-use Rattle.registry_core.specs.declared.type_info.TypeInfo.{TypeInfo}
-use Rattle.registry_core.specs.Fits.{FitsList, FitsText, FitsTexts, FitsOption, FitsId, FitsParam}
-use Rattle.registry_core.specs.Fits.{FitsField, FitsArm, FitsDefinition, FitsType}
+use Rattle.types_core.specs.declared.type_info.TypeInfo.{TypeInfo}
+use Rattle.types_core.specs.Fits.{FitsList, FitsText, FitsTexts, FitsOption, FitsId, FitsParam}
+use Rattle.types_core.specs.Fits.{FitsField, FitsArm, FitsDefinition, FitsType}
 use Rattle.registry_core.specs.Bytes.{magic, version_of}
 use Rattle.registry_core.specs.Spelling.{sequence, text, texts, option, type_id, param, field, arm}
 use Rattle.registry_core.specs.Spelling.{definition, types_from}

@@ -1,6 +1,6 @@
 //! Laws of every registry and its encoding, alone and after the prefix of metadata.
 
-ghost use Rattle.registry_core.specs.Fits.{FitsRegistry};
+ghost use Rattle.types_core.specs.Fits.{FitsRegistry};
 ghost use Rattle.registry_core.specs.Laws.{FaultIsKept, FaultIsWithin, FitsMetadata, FrontIsCut};
 ghost use Rattle.registry_core.specs.Laws.{ReadIsSpelled, SpelledIsRead, metadata_of};
 ghost use Rattle.registry_core.specs.Reading.{metadata_at, registry_at};

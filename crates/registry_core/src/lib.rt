@@ -4,35 +4,17 @@
 //! encoding.
 #![tactic(auto)]
 
-mod definition;
 mod fault;
-mod fields;
-mod items;
-mod keys;
-mod kind;
 pub mod laws;
-mod name;
-mod primitive;
 mod reading;
-mod registry;
-mod text;
-mod type_id;
-mod type_info;
 mod version;
 mod writing;
 
-pub use definition::{Arm, Field, TypeDef};
 pub use fault::{RegistryFault, RegistryReason};
-pub use fields::Fields;
-pub use items::Items;
-pub use keys::Keys;
-pub use kind::{IntegerWidth, PrimitiveKind, Signedness};
-pub use name::Name;
-pub use primitive::Primitive;
 pub use reading::{read_metadata, read_registry};
-pub use registry::Registry;
-pub use text::Text;
-pub use type_id::TypeId;
-pub use type_info::{Param, TypeInfo};
+pub use types_core::{
+    Arm, Field, Fields, IntegerWidth, Items, Keys, Name, Param, Primitive, PrimitiveKind, Registry,
+    Signedness, Text, TypeDef, TypeId, TypeInfo,
+};
 pub use version::Version;
 pub use writing::write_registry;

@@ -2,11 +2,11 @@
 
 ghost use Rattle.std.specs.Prelude.{◌≡◌, ◌++◌, ℕ, List, length, take, IfOk};
 ghost use Rattle.registry_core.specs.Answers.{RegistryAnswers, MetadataAnswers, IsUnlessMemory};
-ghost use Rattle.registry_core.specs.Fits.{FitsRegistry};
+ghost use Rattle.types_core.specs.Fits.{FitsRegistry};
 ghost use Rattle.registry_core.specs.Gives.{Gives};
 ghost use Rattle.registry_core.specs.Reading.{registry_at, metadata_at};
 ghost use Rattle.registry_core.specs.Spelling.{spelling, metadata};
-ghost use Rattle.registry_core.specs.declared.type_info.TypeInfo.{TypeInfo};
+ghost use Rattle.types_core.specs.declared.type_info.TypeInfo.{TypeInfo};
 ghost use Rattle.registry_core.specs.declared.version.Version.{Version as AVersion};
 
 mod atoms;
@@ -17,13 +17,13 @@ mod read_stop;
 mod types;
 
 use crate::fault::RegistryFault;
-use crate::registry::Registry;
 use crate::version::Version;
 use atoms::length_of;
 use prefix::prefix_of;
 use read_stop::ReadStop;
 use std::alloc::Global;
 use types::types_of;
+use types_core::Registry;
 
 /// Reads a registry: the number of types, and the types. Returns it with the bytes after it.
 ///

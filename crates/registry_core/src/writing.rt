@@ -1,21 +1,16 @@
 //! Registries, written in their one encoding.
 
 ghost use Rattle.std.specs.Prelude.{◌≡◌, ◌<◌, ◌++◌, option_map, OnOk, IfOk};
-ghost use Rattle.registry_core.specs.Fits.{FitsText, FitsTexts, FitsOption, FitsList, FitsParam};
-ghost use Rattle.registry_core.specs.Fits.{FitsField, FitsArm, FitsDefinition, FitsType};
+ghost use Rattle.types_core.specs.Fits.{FitsText, FitsTexts, FitsOption, FitsList, FitsParam};
+ghost use Rattle.types_core.specs.Fits.{FitsField, FitsArm, FitsDefinition, FitsType};
 ghost use Rattle.registry_core.specs.Spelling.{sequence, text, texts, option, type_id, param};
 ghost use Rattle.registry_core.specs.Spelling.{field, arm, definition, type_info, spelling};
 
-use crate::definition::{Arm, Field, TypeDef};
-use crate::fields::Fields;
-use crate::items::Items;
-use crate::name::Name;
-use crate::registry::Registry;
-use crate::text::Text;
-use crate::type_id::TypeId;
-use crate::type_info::{Param, TypeInfo};
 use scale_core::{write_compact, write_text, write_u32};
 use std::alloc::{AllocError, Global};
+use types_core::{
+    Arm, Field, Fields, Items, Name, Param, Registry, Text, TypeDef, TypeId, TypeInfo,
+};
 
 /// Appends a text.
 ///

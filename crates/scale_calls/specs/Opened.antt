@@ -5,7 +5,7 @@ use Rattle.scale_core.specs.Read.{Read, place}
 use Rattle.registry_core.specs.Answers.{FaultAnswers}
 use Rattle.registry_core.specs.Reading.{registry_at, metadata_at}
 use Rattle.registry_core.specs.declared.fault.RegistryFault.{RegistryFault}
-use Rattle.registry_core.specs.declared.type_info.TypeInfo.{TypeInfo}
+use Rattle.types_core.specs.declared.type_info.TypeInfo.{TypeInfo}
 use Rattle.registry_core.specs.declared.version.Version.{Version}
 use Rattle.graph_core.specs.References.{first_fault}
 use Rattle.scale_calls.specs.declared.refusal.RegistryRefusal.{RegistryRefusal}

@@ -2,7 +2,7 @@
 
 ghost use Rattle.std.specs.Prelude.{◌≡◌, ◌≢◌, ◌++◌, List, ℕ, Decides, IfOk, IfSome, MatchOption};
 ghost use Rattle.std.specs.Prelude.{codes, option_copied, option_map, slice_get, string_bytes};
-ghost use Rattle.registry_core.specs.Fits.{FitsDefinition};
+ghost use Rattle.types_core.specs.Fits.{FitsDefinition};
 ghost use Rattle.scale_calls.specs.Describing.{IsFirstOfPath, arm_field, arm_of, field_part};
 ghost use Rattle.scale_calls.specs.Describing.{part_of, result_map, seen, seen_definition};
 ghost use Rattle.scale_calls.specs.Describing.{type_arm, type_definition, type_part, type_path};

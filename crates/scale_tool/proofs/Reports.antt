@@ -2,7 +2,7 @@
 use Rattle.std.proofs.Common.{◌≡◌, ◌++◌, ◌∙◌, ap, ℕ, List, [], Bool, Option, Some, None, sym, subst}
 use Rattle.std.proofs.Common.{inl, inr, refl}
 use Rattle.std.specs.Prelude.{IfSome, ◌⊎◌}
-use Rattle.registry_core.specs.declared.type_info.TypeInfo.{TypeInfo}
+use Rattle.types_core.specs.declared.type_info.TypeInfo.{TypeInfo}
 use Rattle.scale_calls.specs.Opened.{RefusesRegistry}
 use Rattle.scale_calls.specs.declared.refusal.RegistryRefusal.{RegistryRefusal}
 use Rattle.scale_calls.specs.declared.refusal.RegistryRefusal.TheVariants as types

@@ -2,7 +2,7 @@
 -- the job's files.
 use Rattle.std.specs.Prelude.{◌≡◌, ◌≤◌, ℕ, List, [], ◌∷◌, ◌++◌, length, Bool, codes, decimal}
 use Rattle.std.specs.Prelude.{Option, Some, IfSome}
-use Rattle.registry_core.specs.declared.type_info.TypeInfo.{TypeInfo}
+use Rattle.types_core.specs.declared.type_info.TypeInfo.{TypeInfo}
 use Rattle.registry_core.specs.Names as registry
 use Rattle.decode_core.specs.Names as decode
 use Rattle.scale_calls.specs.Opened.{RefusesRegistry, checked_of}

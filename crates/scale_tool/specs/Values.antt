@@ -1,7 +1,7 @@
 -- The value of a job, by what its file holds.
 use Rattle.std.specs.Prelude.{◌≡◌, ℕ, List, Bool, true, false, Option, Some, None, option_and_then}
 use Rattle.std.specs.Prelude.{Result, Ok, Err, IfSome}
-use Rattle.registry_core.specs.declared.type_info.TypeInfo.{TypeInfo}
+use Rattle.types_core.specs.declared.type_info.TypeInfo.{TypeInfo}
 use Rattle.node_core.specs.Shown.{Seen}
 use Rattle.machine_core.specs.Outcome as decoder
 use Rattle.decode_core.specs.Decoding.{FinishesDecoder}

@@ -2,7 +2,7 @@
 
 ghost use Rattle.std.specs.Prelude.{◌≡◌, ◌≤◌, ◌⊎◌, List, true, None, Some, IfOk, IfErr, IfSome};
 ghost use Rattle.std.specs.Prelude.{IsErrOf, OnOk, string_bytes};
-ghost use Rattle.registry_core.specs.declared.type_info.TypeInfo.{TypeInfo};
+ghost use Rattle.types_core.specs.declared.type_info.TypeInfo.{TypeInfo};
 ghost use Rattle.decode_core.specs.Streaming.{FailsAfter};
 ghost use Rattle.scale_tool.specs.Answer.{HasJobType, IsServed, OnText, ReadsNoValue, StopsJob};
 ghost use Rattle.scale_tool.specs.Answer.{StopsValue, WritesAll, WritesFront, line_of, types_text};

@@ -2,10 +2,10 @@
 use Rattle.std.specs.Prelude.{◌≡◌, ℕ, ◌⊎◌, List, [], length, nat_le, if◌then◌else◌, Option, Some}
 use Rattle.std.specs.Prelude.{None, MatchOption, Result, Ok, Err}
 use Rattle.json_core.specs.Printed.{IsInFront}
-use Rattle.registry_core.specs.Bytes.{primitive_byte}
-use Rattle.registry_core.specs.declared.definition.Arm.{Arm}
-use Rattle.registry_core.specs.declared.definition.TypeDef.{TypeDef}
-use Rattle.registry_core.specs.declared.definition.TypeDef.TheVariants as definition
+use Rattle.types_core.specs.Bytes.{primitive_byte}
+use Rattle.types_core.specs.declared.definition.Arm.{Arm}
+use Rattle.types_core.specs.declared.definition.TypeDef.{TypeDef}
+use Rattle.types_core.specs.declared.definition.TypeDef.TheVariants as definition
 use Rattle.widths_core.specs.declared.class.Class.{Class}
 use Rattle.widths_core.specs.declared.class.Class.TheVariants as class
 use Rattle.scale_calls.specs.Describing.{IsFirstOfPath, Named, arm_field, type_arm, type_definition}

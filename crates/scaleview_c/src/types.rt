@@ -1,8 +1,8 @@
 //! The calls that describe a registry's types.
 
 ghost use Rattle.std.specs.Prelude.{◌≡◌};
-ghost use Rattle.registry_core.specs.Bytes.{primitive_byte};
-ghost use Rattle.registry_core.specs.Fits.{FitsDefinition};
+ghost use Rattle.types_core.specs.Bytes.{primitive_byte};
+ghost use Rattle.types_core.specs.Fits.{FitsDefinition};
 ghost use Rattle.scale_calls.specs.Describing.{result_map, seen};
 ghost use Rattle.scaleview_c.specs.Types.{ReportsFirst, ReportsShape, WritesArm, WritesArmField};
 ghost use Rattle.scaleview_c.specs.Types.{WritesName, WritesPart, WritesPath, WritesTypePart};

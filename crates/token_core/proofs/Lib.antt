@@ -1,4 +1,3 @@
-pub mod AsIs
 pub mod Hexadecimal
 pub mod Outputs
 pub mod Placing

@@ -1,4 +1,3 @@
-pub mod Plain
 pub mod Tokens
 pub mod Digits
 pub mod Places

@@ -4,9 +4,8 @@
 mod digits;
 mod output;
 mod places;
-mod plain;
 mod strings;
 
 pub use output::Output;
-pub use plain::{Escapes, is_plain};
+pub use plain_core::{Escapes, is_plain};
 pub use strings::{place_hex_text, place_quoted};

@@ -8,13 +8,13 @@ ghost use Rattle.json.specs.Print.{quoted};
 ghost use Rattle.json.specs.Token.{begin_object, end_object, begin_array, end_array, key, string};
 ghost use Rattle.json.specs.Token.{number, boolean, null};
 ghost use Rattle.token_core.specs.Places.{Appended};
-ghost use Rattle.token_core.specs.Plain.{AreEscapes};
+ghost use Rattle.plain_core.specs.Plain.{AreEscapes};
 
 use crate::places::{
     place_between, place_byte, place_bytes, place_comma, place_decimal, place_long,
 };
-use crate::plain::{Escapes, is_plain};
 use crate::strings::{BLOCK, place_escaped, place_hex_text};
+use plain_core::{Escapes, is_plain};
 use std::alloc::{AllocError, Allocator};
 use std::marker::Model;
 

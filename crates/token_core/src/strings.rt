@@ -9,7 +9,7 @@ ghost use Rattle.token_core.specs.Places.{OnlyPlaced};
 
 use crate::digits::place_hex;
 use crate::places::{place_between, place_byte, place_bytes};
-use crate::plain::is_plain_16;
+use plain_core::is_plain_16;
 
 /// How many bytes of a text are escaped at once.
 pub(crate) const BLOCK: usize = 16;

@@ -3,10 +3,10 @@ use Rattle.std.proofs.Common.{◌≡◌, ℕ, ◌+◌, ◌≤◌, Bool, true, fa
 use Rattle.std.proofs.Common.{refl, sym, ap, subst, ◌∙◌, arith, inl, inr}
 use Rattle.std.specs.Prelude.{option_map, nat_lt, if◌then◌else◌, IfSome, is_none}
 use Rattle.scale_core.specs.declared.compact.Target.{Target}
-use Rattle.registry_core.specs.declared.definition.TypeDef.{TypeDef}
-use Rattle.registry_core.specs.declared.definition.TypeDef.TheVariants as Def
-use Rattle.registry_core.specs.declared.type_id.TypeId.{TypeId}
-use Rattle.registry_core.specs.declared.type_info.TypeInfo.{TypeInfo}
+use Rattle.types_core.specs.declared.definition.TypeDef.{TypeDef}
+use Rattle.types_core.specs.declared.definition.TypeDef.TheVariants as Def
+use Rattle.types_core.specs.declared.type_id.TypeId.{TypeId}
+use Rattle.types_core.specs.declared.type_info.TypeInfo.{TypeInfo}
 use Rattle.graph_core.specs.Types.{shape, ids, field_types}
 use Rattle.widths_core.specs.declared.class.Class.{Class}
 use Rattle.widths_core.specs.declared.class.Class.TheVariants as class
@@ -18,7 +18,7 @@ use Rattle.widths_core.specs.Classes.{class_of, is_unit}
 use Rattle.widths_core.specs.Steps.{references_of, AreParts, IsArm, IsStep, IsStepAt, array_step}
 use Rattle.widths_core.specs.Steps.{by_class, sequence_step}
 use Rattle.widths_core.specs.Layouts.{is_byte}
-use Rattle.registry_core.specs.declared.definition.Arm.{Arm}
+use Rattle.types_core.specs.declared.definition.Arm.{Arm}
 use Rattle.grammar_core.proofs.Steps.{some_next, none_next}
 use Rattle.grammar_core.specs.Forms.{compact_next, next_at, next_of_step}
 use Rattle.grammar_core.specs.Parts.{Part, each, times, how_many_left}

@@ -5,7 +5,7 @@ use Rattle.std.proofs.Common.{refl, sym, ap, subst, ◌∙◌, append_assoc, ari
 use Rattle.std.specs.Prelude.{slice_get, slice_set, IfSome}
 use Rattle.std.proofs.lemmas.List.{length-map, map-append}
 use Rattle.std.proofs.lemmas.Option.{same_Some}
-use Rattle.registry_core.specs.declared.type_id.TypeId.{TypeId}
+use Rattle.types_core.specs.declared.type_id.TypeId.{TypeId}
 use Rattle.widths_core.specs.Layouts.{Layout}
 use Rattle.widths_core.specs.Layouts as layout
 use Rattle.grammar_core.specs.Cells.{fields_part}

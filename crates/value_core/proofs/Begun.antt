@@ -10,7 +10,7 @@ use Rattle.std.proofs.lemmas.Simd.{map-map}
 use Rattle.std.proofs.lemmas.Option.{same_Some}
 use Rattle.std.proofs.lemmas.List.Folds.{flat_map-map}
 use Rattle.scale_core.specs.Number.{AreBytes}
-use Rattle.registry_core.specs.declared.type_info.TypeInfo.{TypeInfo}
+use Rattle.types_core.specs.declared.type_info.TypeInfo.{TypeInfo}
 use Rattle.graph_core.specs.Types.{shape}
 use Rattle.grammar_core.specs.Tree.{Tree, Trees, nodes, all_nodes}
 use Rattle.grammar_core.specs.Preorder as head

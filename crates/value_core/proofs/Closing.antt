@@ -4,7 +4,7 @@ use Rattle.std.proofs.Common.{length, Some, None, refl, sym, ap, subst, ◌∙�
 use Rattle.std.proofs.Common.{length-append}
 use Rattle.std.specs.Prelude.{slice_get, slice_set}
 use Rattle.std.proofs.lemmas.List.{length-map}
-use Rattle.registry_core.specs.declared.type_info.TypeInfo.{TypeInfo}
+use Rattle.types_core.specs.declared.type_info.TypeInfo.{TypeInfo}
 use Rattle.grammar_core.specs.Parts.{Part, times, first_of}
 use Rattle.grammar_core.specs.Cells.{Cell}
 use Rattle.node_core.specs.Shown.{cell_shown, cells_shown, head_shown, size_shown, closed_as}

@@ -3,11 +3,11 @@ use Rattle.std.proofs.Common.{◌≡◌, ℕ, ◌+◌, ◌<◌, ◌≤◌, ◌�
 use Rattle.std.proofs.Common.{Option, Some, None, refl, subst, arith}
 use Rattle.std.specs.Prelude.{nat_lt, if◌then◌else◌}
 use Rattle.scale_core.specs.declared.compact.Target.{Target}
-use Rattle.registry_core.specs.declared.definition.Arm.{Arm}
-use Rattle.registry_core.specs.declared.primitive.Primitive.{Primitive}
-use Rattle.registry_core.specs.declared.definition.TypeDef.{TypeDef}
-use Rattle.registry_core.specs.declared.definition.TypeDef.TheVariants as Def
-use Rattle.registry_core.specs.declared.type_info.TypeInfo.{TypeInfo}
+use Rattle.types_core.specs.declared.definition.Arm.{Arm}
+use Rattle.types_core.specs.declared.primitive.Primitive.{Primitive}
+use Rattle.types_core.specs.declared.definition.TypeDef.{TypeDef}
+use Rattle.types_core.specs.declared.definition.TypeDef.TheVariants as Def
+use Rattle.types_core.specs.declared.type_info.TypeInfo.{TypeInfo}
 use Rattle.graph_core.specs.Types.{shape, ids, field_types}
 use Rattle.widths_core.specs.Targets.{target_of}
 use Rattle.widths_core.specs.Classes.{is_finite, is_empty}
@@ -26,7 +26,7 @@ use Rattle.grammar_core.specs.Runs.{run_form}
 use Rattle.grammar_core.proofs.Classes.{shapeless}
 use Rattle.widths_core.specs.declared.run_kind.RunKind.{RunKind}
 use Rattle.widths_core.specs.declared.run_kind.RunKind.TheVariants as kind
-use Rattle.registry_core.specs.declared.primitive.Primitive.TheVariants as P
+use Rattle.types_core.specs.declared.primitive.Primitive.TheVariants as P
 use Rattle.value_core.specs.Walked.{Walked, next_type, next_of, next_from}
 
 -- ---- forms

@@ -3,7 +3,7 @@ use Rattle.std.proofs.Common.{◌≡◌, ℕ, ◌+◌, ◌-◌, ◌^◌, ◌≤�
 use Rattle.std.proofs.Common.{length, length-append, IfSome, refl, ◌∙◌, arith}
 use Rattle.std.proofs.lemmas.List.{length-take}
 use Rattle.std.proofs.lemmas.Option.{same_Some}
-use Rattle.registry_core.specs.declared.type_id.TypeId.{TypeId}
+use Rattle.types_core.specs.declared.type_id.TypeId.{TypeId}
 use Rattle.value_core.specs.Built.{IsNextLeaf, head_text_bytes, entries_shown, entries_text_bytes}
 use Rattle.value_core.specs.Building.{IsBuilding, IsPaid}
 use Rattle.node_core.specs.Leaves.{leaf_head, leaf_text_bytes, FitsLeaf, IsAppended}

@@ -6,7 +6,7 @@ use Rattle.std.specs.Prelude.{map, reverse, IsSome}
 use Rattle.std.proofs.lemmas.List.{length-drop, length-map, length-reverse, length-take-le}
 use Rattle.std.proofs.lemmas.List.{reverse-append}
 use Rattle.std.proofs.lemmas.Option.{slice_get-get_or}
-use Rattle.registry_core.specs.declared.type_info.TypeInfo.{TypeInfo}
+use Rattle.types_core.specs.declared.type_info.TypeInfo.{TypeInfo}
 use Rattle.grammar_core.specs.Parts.{each, first_of}
 use Rattle.widths_core.specs.Steps.{AreParts}
 use Rattle.value_core.specs.Frames.{frames_of}

@@ -11,13 +11,13 @@ use Rattle.scale_core.specs.declared.compact.Target.{Target}
 use Rattle.scale_core.specs.declared.compact.Target.TheVariants as target
 use Rattle.scale_core.proofs.Numbers.{length-le_bytes, number-le_bytes, both_bytes}
 use Rattle.scale_core.proofs.Modes.{are_le_bytes, are_compact}
-use Rattle.registry_core.specs.Kinds.{kind_of, width_bytes}
-use Rattle.registry_core.specs.declared.kind.IntegerWidth.{IntegerWidth}
-use Rattle.registry_core.specs.declared.kind.Signedness.{Signedness}
-use Rattle.registry_core.specs.declared.kind.PrimitiveKind.TheVariants as K
-use Rattle.registry_core.proofs.Widths.{width_halves, width_numbers}
-use Rattle.registry_core.specs.declared.primitive.Primitive.{Primitive}
-use Rattle.registry_core.specs.declared.primitive.Primitive.TheVariants as P
+use Rattle.types_core.specs.Kinds.{kind_of, width_bytes}
+use Rattle.types_core.specs.declared.kind.IntegerWidth.{IntegerWidth}
+use Rattle.types_core.specs.declared.kind.Signedness.{Signedness}
+use Rattle.types_core.specs.declared.kind.PrimitiveKind.TheVariants as K
+use Rattle.types_core.proofs.Widths.{width_halves, width_numbers}
+use Rattle.types_core.specs.declared.primitive.Primitive.{Primitive}
+use Rattle.types_core.specs.declared.primitive.Primitive.TheVariants as P
 use Rattle.widths_core.specs.Layouts.{Plain, kind_layout, layout}
 use Rattle.widths_core.specs.Layouts as layout
 use Rattle.grammar_core.specs.Grammar.{Val}

@@ -6,7 +6,7 @@ use Rattle.std.proofs.lemmas.Option.{same_Some}
 use Rattle.scale_core.specs.Number.{AreBytes}
 use Rattle.scale_core.specs.Compact.{compact}
 use Rattle.scale_core.proofs.Modes.{are_compact}
-use Rattle.registry_core.specs.declared.definition.Arm.{Arm}
+use Rattle.types_core.specs.declared.definition.Arm.{Arm}
 use Rattle.graph_core.specs.Types.{field_types}
 use Rattle.widths_core.specs.Arms.{arm_of}
 use Rattle.widths_core.specs.Classes.{is_finite}

@@ -3,12 +3,12 @@ use Rattle.std.proofs.Common.{◌≡◌, ℕ, Bool, true, false, List, Option, S
 use Rattle.std.proofs.Common.{◌∙◌, inl, inr}
 use Rattle.std.specs.Prelude.{if◌then◌else◌, option_map}
 use Rattle.scale_core.specs.declared.compact.Target.{Target}
-use Rattle.registry_core.specs.declared.definition.Arm.{Arm}
-use Rattle.registry_core.specs.declared.definition.Field.{Field}
-use Rattle.registry_core.specs.declared.definition.TypeDef.{TypeDef}
-use Rattle.registry_core.specs.declared.definition.TypeDef.TheVariants as Def
-use Rattle.registry_core.specs.declared.type_id.TypeId.{TypeId}
-use Rattle.registry_core.specs.declared.type_info.TypeInfo.{TypeInfo}
+use Rattle.types_core.specs.declared.definition.Arm.{Arm}
+use Rattle.types_core.specs.declared.definition.Field.{Field}
+use Rattle.types_core.specs.declared.definition.TypeDef.{TypeDef}
+use Rattle.types_core.specs.declared.definition.TypeDef.TheVariants as Def
+use Rattle.types_core.specs.declared.type_id.TypeId.{TypeId}
+use Rattle.types_core.specs.declared.type_info.TypeInfo.{TypeInfo}
 use Rattle.graph_core.specs.Types.{shape, ids, field_types}
 use Rattle.widths_core.specs.Arms.{arm_of, arm_at, arm_of_shape}
 use Rattle.widths_core.specs.Classes.{is_empty}

@@ -2,7 +2,7 @@
 use Rattle.std.specs.Prelude.{◌≡◌, ℕ, ◌+◌, ◌-◌, nat_lt, if◌then◌else◌, List, length, map, flat_map}
 use Rattle.std.specs.Prelude.{Option, Some, None, option_map}
 use Rattle.scale_core.specs.Number.{AreBytes}
-use Rattle.registry_core.specs.declared.type_info.TypeInfo.{TypeInfo}
+use Rattle.types_core.specs.declared.type_info.TypeInfo.{TypeInfo}
 use Rattle.graph_core.specs.Types.{shape}
 use Rattle.grammar_core.specs.Spelled.{own_bytes}
 use Rattle.grammar_core.specs.Begun.{Begun, Grows, begun_preorder, begun_nodes, begun_text_bytes}

@@ -1,6 +1,6 @@
 -- The open parts of a walk, as its fields keep them.
 use Rattle.std.specs.Prelude.{ℕ, List, [], ◌∷◌, map, reverse}
-use Rattle.registry_core.specs.declared.type_info.TypeInfo.{TypeInfo}
+use Rattle.types_core.specs.declared.type_info.TypeInfo.{TypeInfo}
 use Rattle.node_core.specs.Remaining.{left_of, IsWithin}
 use Rattle.node_core.specs.declared.remaining.Frame.{Frame}
 use Rattle.value_core.specs.Walked.{OpenPart}

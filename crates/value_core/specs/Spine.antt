@@ -1,7 +1,7 @@
 -- The open nodes of a value that is being built, the innermost first, each with its complete
 -- children and their bytes.
 use Rattle.std.specs.Prelude.{◌≡◌, ℕ, suc, ◌≤◌, ◌⊎◌, List, [], ◌∷◌, ◌++◌, length, Some, true}
-use Rattle.registry_core.specs.declared.type_info.TypeInfo.{TypeInfo}
+use Rattle.types_core.specs.declared.type_info.TypeInfo.{TypeInfo}
 use Rattle.widths_core.specs.Classes.{is_finite}
 use Rattle.widths_core.specs.Layouts.{layout}
 use Rattle.grammar_core.specs.Tree.{Branch, Tree, Trees, levels, most_levels}

@@ -15,7 +15,7 @@ use crate::build_fault::BuildFault;
 use crate::builder::Builder;
 use grammar_core::Form;
 use node_core::{Leaf, index_of};
-use registry_core::{IntegerWidth, Primitive, PrimitiveKind};
+use types_core::{IntegerWidth, Primitive, PrimitiveKind};
 use std::alloc::Allocator;
 
 /// Returns the greatest number of an unsigned integer of this width.

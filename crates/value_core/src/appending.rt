@@ -18,7 +18,7 @@ use crate::walk::Walk;
 use count_core::Count;
 use growth_core::GrowVec;
 use node_core::{Content, Leaf, Node, Remaining};
-use registry_core::TypeId;
+use types_core::TypeId;
 use std::alloc::{AllocError, Allocator};
 
 /// Makes room for one more node of a walk. If there is none, it also reserves for further nodes and

@@ -12,7 +12,7 @@ use crate::raw_builder::RawBuilder;
 use crate::walk::Walk;
 use grammar_core::{Form, MAX_DEPTH, Next, RunKind};
 use node_core::Value;
-use registry_core::TypeId;
+use types_core::TypeId;
 use std::alloc::Allocator;
 use std::marker::Model;
 use widths_core::Checked;

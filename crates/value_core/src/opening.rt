@@ -10,7 +10,7 @@ ghost use Rattle.value_core.specs.Wrapped.{Wraps, WrapsArray};
 use crate::raw_builder::RawBuilder;
 use grammar_core::{Form, Next};
 use node_core::{Content, Leaf};
-use registry_core::TypeId;
+use types_core::TypeId;
 use std::alloc::{AllocError, Allocator};
 
 impl<'r, A: Allocator> RawBuilder<'r, A> {

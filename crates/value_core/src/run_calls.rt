@@ -13,7 +13,7 @@ use crate::build_fault::BuildFault;
 use crate::builder::Builder;
 use grammar_core::{Form, RunKind};
 use node_core::Leaf;
-use registry_core::Primitive;
+use types_core::Primitive;
 use std::alloc::Allocator;
 
 impl<'r, A: Allocator> Builder<'r, A> {

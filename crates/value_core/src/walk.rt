@@ -15,7 +15,7 @@ ghost use Rattle.value_core.specs.Wrapped.{WrapsArray};
 use grammar_core::{Form, MAX_DEPTH, Next, StopReason, next_of_step};
 use growth_core::GrowVec;
 use node_core::{Frame, Node, Remaining};
-use registry_core::TypeId;
+use types_core::TypeId;
 use std::alloc::{AllocError, Allocator};
 use std::marker::Model;
 use widths_core::{Checked, TypeStep};

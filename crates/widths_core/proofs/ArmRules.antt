@@ -5,7 +5,7 @@ use Rattle.std.proofs.Common.{arith}
 use Rattle.std.specs.Prelude.{◌==◌, ◌||◌, is_some}
 use Rattle.std.specs.List.{list_any}
 use Rattle.std.proofs.lemmas.List.{at_drop_more, append_assoc, drop_more, length-drop}
-use Rattle.registry_core.specs.declared.definition.Arm.{Arm}
+use Rattle.types_core.specs.declared.definition.Arm.{Arm}
 use Rattle.graph_core.specs.declared.graph.Graph.{Graph}
 use Rattle.widths_core.specs.declared.counter.Kind.TheVariants as kind
 use Rattle.widths_core.specs.declared.counter.Counter.{Counter}

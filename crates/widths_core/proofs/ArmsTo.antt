@@ -3,7 +3,7 @@ use Rattle.std.proofs.Common.{◌≡◌, ℕ, zero, suc, ◌+◌, ◌<◌, Bool,
 use Rattle.std.proofs.Common.{length, get_or, take, Option, Some, None, refl, ap, ◌∙◌, arith}
 use Rattle.std.specs.Prelude.{◌==◌, is_some}
 use Rattle.std.proofs.lemmas.Bool.{eqb-true}
-use Rattle.registry_core.specs.declared.definition.Arm.{Arm}
+use Rattle.types_core.specs.declared.definition.Arm.{Arm}
 use Rattle.widths_core.specs.Arms.{arm_of, arm_from}
 
 abbrev or_new : Option (ℕ × Arm) → Option (ℕ × Arm) → Option (ℕ × Arm)

@@ -5,8 +5,8 @@ use Rattle.std.specs.Prelude.{slice_get}
 use Rattle.std.proofs.lemmas.Bool.{cases_lt}
 use Rattle.std.proofs.lemmas.List.{length_push}
 use Rattle.std.proofs.lemmas.Option.{slice_get_within}
-use Rattle.registry_core.specs.declared.definition.TypeDef.{TypeDef}
-use Rattle.registry_core.specs.declared.type_info.TypeInfo.{TypeInfo}
+use Rattle.types_core.specs.declared.definition.TypeDef.{TypeDef}
+use Rattle.types_core.specs.declared.type_info.TypeInfo.{TypeInfo}
 use Rattle.widths_core.specs.declared.rows.Rows.{Rows}
 use Rattle.widths_core.specs.declared.type_step.TypeStep.{TypeStep}
 use Rattle.graph_core.specs.Types.{shape}

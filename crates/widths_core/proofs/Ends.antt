@@ -4,8 +4,8 @@ use Rattle.std.proofs.Common.{Some}
 use Rattle.std.proofs.Common.{take, None, refl, sym, ap, ◌∙◌, arith, inl, inr}
 use Rattle.std.proofs.lemmas.Bool.{cases_lt, cases_eq}
 use Rattle.std.proofs.lemmas.List.{get_or_past, length-append, take-append-le}
-use Rattle.registry_core.specs.declared.definition.TypeDef.{TypeDef}
-use Rattle.registry_core.specs.declared.type_info.TypeInfo.{TypeInfo}
+use Rattle.types_core.specs.declared.definition.TypeDef.{TypeDef}
+use Rattle.types_core.specs.declared.type_info.TypeInfo.{TypeInfo}
 use Rattle.widths_core.specs.declared.counter.Kind.TheVariants as kind
 use Rattle.widths_core.specs.Rules.{rules, numbers_from, found_sized}
 use Rattle.widths_core.specs.Progress.{Progress, counter_at, completed, settled_as, KnowsType}

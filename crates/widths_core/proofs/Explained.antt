@@ -1,6 +1,6 @@
 -- The fault of a registry explains itself.
 use Rattle.std.specs.Prelude.{List}
-use Rattle.registry_core.specs.declared.type_info.TypeInfo.{TypeInfo}
+use Rattle.types_core.specs.declared.type_info.TypeInfo.{TypeInfo}
 use Rattle.graph_core.specs.declared.fault.CheckFault.{CheckFault}
 use Rattle.graph_core.specs.declared.fault.CheckFault.TheVariants as fault
 use Rattle.graph_core.specs.References.{first_fault}

@@ -5,7 +5,7 @@ use Rattle.std.proofs.Common.{ap, subst, ◌∙◌, ◌⊎◌, arith, inl, inr}
 use Rattle.std.specs.Prelude.{◌==◌, slice_get}
 use Rattle.std.proofs.lemmas.Bool.{eq-eqb, cases_lt, cases_eq}
 use Rattle.std.proofs.lemmas.List.{take-append-le, take_more, length-append, get_or_past}
-use Rattle.registry_core.specs.declared.type_info.TypeInfo.{TypeInfo}
+use Rattle.types_core.specs.declared.type_info.TypeInfo.{TypeInfo}
 use Rattle.widths_core.specs.declared.class.Class.TheVariants as class
 use Rattle.widths_core.specs.declared.counter.Found.{Found}
 use Rattle.graph_core.specs.declared.graph.Graph.{Graph}

@@ -3,15 +3,15 @@ use Rattle.std.proofs.Common.{◌≡◌, ℕ, zero, suc, ◌+◌, ◌<◌, Bool,
 use Rattle.std.proofs.Common.{◌++◌, length, get_or, Some, None, refl, sym, ap, ◌∙◌, arith}
 use Rattle.std.specs.Prelude.{◌==◌}
 use Rattle.std.specs.List.{AllByRecursion, list_all, list_any}
-use Rattle.registry_core.specs.Kinds.{kind_of}
-use Rattle.registry_core.specs.declared.definition.Field.{Field}
-use Rattle.registry_core.specs.declared.type_id.TypeId.{TypeId}
-use Rattle.registry_core.specs.declared.definition.Arm.{Arm}
-use Rattle.registry_core.specs.declared.definition.TypeDef.{TypeDef}
-use Rattle.registry_core.specs.declared.definition.TypeDef.TheVariants as Def
-use Rattle.registry_core.specs.declared.kind.PrimitiveKind.{PrimitiveKind}
-use Rattle.registry_core.specs.declared.kind.PrimitiveKind.TheVariants as K
-use Rattle.registry_core.specs.declared.type_info.TypeInfo.{TypeInfo}
+use Rattle.types_core.specs.Kinds.{kind_of}
+use Rattle.types_core.specs.declared.definition.Field.{Field}
+use Rattle.types_core.specs.declared.type_id.TypeId.{TypeId}
+use Rattle.types_core.specs.declared.definition.Arm.{Arm}
+use Rattle.types_core.specs.declared.definition.TypeDef.{TypeDef}
+use Rattle.types_core.specs.declared.definition.TypeDef.TheVariants as Def
+use Rattle.types_core.specs.declared.kind.PrimitiveKind.{PrimitiveKind}
+use Rattle.types_core.specs.declared.kind.PrimitiveKind.TheVariants as K
+use Rattle.types_core.specs.declared.type_info.TypeInfo.{TypeInfo}
 use Rattle.widths_core.specs.declared.class.Class.{Class}
 use Rattle.widths_core.specs.declared.class.Class.TheVariants as class
 use Rattle.widths_core.specs.declared.counter.Kind.{Kind}

@@ -2,10 +2,10 @@
 -- arms a row sorted by index.
 use Rattle.std.specs.Prelude.{◌≡◌, ℕ, ◌+◌, ◌<◌, ◌≤◌, List, length, take, drop, flat_map, Bool}
 use Rattle.std.specs.Prelude.{if◌then◌else◌, Option, Some, None, slice_get}
-use Rattle.registry_core.specs.declared.definition.Arm.{Arm}
-use Rattle.registry_core.specs.declared.definition.TypeDef.{TypeDef}
-use Rattle.registry_core.specs.declared.definition.TypeDef.TheVariants as Def
-use Rattle.registry_core.specs.declared.type_info.TypeInfo.{TypeInfo}
+use Rattle.types_core.specs.declared.definition.Arm.{Arm}
+use Rattle.types_core.specs.declared.definition.TypeDef.{TypeDef}
+use Rattle.types_core.specs.declared.definition.TypeDef.TheVariants as Def
+use Rattle.types_core.specs.declared.type_info.TypeInfo.{TypeInfo}
 use Rattle.widths_core.specs.declared.rows.Rows.{Rows}
 use Rattle.widths_core.specs.declared.type_step.ArmStep.{ArmStep}
 use Rattle.widths_core.specs.declared.class.Class.{Class}

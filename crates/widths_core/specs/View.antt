@@ -1,6 +1,6 @@
 -- What a caller knows about a checked registry.
 use Rattle.std.specs.Prelude.{List}
-use Rattle.registry_core.specs.declared.type_info.TypeInfo.{TypeInfo}
+use Rattle.types_core.specs.declared.type_info.TypeInfo.{TypeInfo}
 use Rattle.graph_core.specs.declared.looks.Looks.{Looks}
 
 -- its types, by position, and what was looked at to check them

@@ -1,7 +1,7 @@
 //! Analyses a registry in two passes over its types and one over the references to each.
 
 ghost use Rattle.std.specs.Prelude.{◌≡◌, ◌<◌, ◌^◌, length, IfOk, IfErr};
-ghost use Rattle.registry_core.specs.Fits.{FitsRegistry};
+ghost use Rattle.types_core.specs.Fits.{FitsRegistry};
 ghost use Rattle.graph_core.specs.Graphs.{IsUnread};
 ghost use Rattle.graph_core.specs.References.{first_fault};
 ghost use Rattle.graph_core.specs.Stops.{IsAnsweredFault, IsFaultOf, IsFaultWithin, IsRefusedFor};
@@ -17,7 +17,7 @@ use crate::rows::Rows;
 use crate::settling::Settling;
 use crate::type_step::TypeStep;
 use graph_core::{CheckFault, Examined, Graph, Reference, Sizes, first_unknown, sizes_of};
-use registry_core::Registry;
+use types_core::Registry;
 use std::alloc::{AllocError, Global};
 
 /// The types of a registry after their second look.

@@ -2,7 +2,7 @@
 
 ghost use Rattle.std.specs.Prelude.{◌≡◌, ◌<◌, length, IfOk, IfErr, IfSome, SomeIff, option_map};
 ghost use Rattle.std.specs.Prelude.{slice_get};
-ghost use Rattle.registry_core.specs.Fits.{FitsDefinition};
+ghost use Rattle.types_core.specs.Fits.{FitsDefinition};
 ghost use Rattle.widths_core.specs.Analysed.{HasFewLooks};
 ghost use Rattle.widths_core.specs.Arms.{arm_at};
 ghost use Rattle.widths_core.specs.Checks.{CheckAnswers, Explains};
@@ -18,7 +18,7 @@ use crate::class::Class;
 use crate::rows::Rows;
 use crate::type_step::{ArmStep, Parts, TypeStep, step_of};
 use graph_core::{CheckFault, Examined};
-use registry_core::{Arm, Registry, TypeDef, TypeId, TypeInfo};
+use types_core::{Arm, Registry, TypeDef, TypeId, TypeInfo};
 use scale_core::Target;
 use std::alloc::Global;
 use std::marker::Model;
@@ -32,7 +32,7 @@ use std::marker::Model;
 /// The table takes 12 bytes a type, 4 a reference and 13 an arm, including shadowed ones. While it
 /// is made, table and lists take at most 19 bytes a type, 12 a reference and 13 an arm, and
 /// counters and the order in which types settle take 36 bytes a type and 16 an arm. The order of
-/// names is kept in the registry ([`Fields`](registry_core::Fields)).
+/// names is kept in the registry ([`Fields`](types_core::Fields)).
 #[derive(Debug, Drop)]
 pub struct Checked {
     /// The registry, with the looks taken at it.

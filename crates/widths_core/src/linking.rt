@@ -2,7 +2,7 @@
 
 ghost use Rattle.std.specs.Prelude.{◌≡◌, ℕ, ◌<◌, ◌^◌, ◌++◌, ◌∷◌, [], length, false, None, IfOk};
 ghost use Rattle.std.specs.Prelude.{IfErr};
-ghost use Rattle.registry_core.specs.declared.definition.TypeDef.TheVariants.{Variant};
+ghost use Rattle.types_core.specs.declared.definition.TypeDef.TheVariants.{Variant};
 ghost use Rattle.graph_core.specs.Cursors.{arms_left, current, open_definition, parts_left};
 ghost use Rattle.graph_core.specs.Graphs.{AreSeen, IsLinked, IsNew, refs};
 ghost use Rattle.graph_core.specs.Outlines.{IsTold};
@@ -22,7 +22,7 @@ use crate::counter::{Counter, Found, Kind};
 use crate::rows::Rows;
 use crate::type_step::{ArmStep, Parts, TypeStep};
 use graph_core::{CheckFault, Definition, Graph, LinkStop};
-use registry_core::{IntegerWidth, Primitive, PrimitiveKind};
+use types_core::{IntegerWidth, Primitive, PrimitiveKind};
 use scale_core::Target;
 use std::alloc::Global;
 

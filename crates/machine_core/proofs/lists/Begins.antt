@@ -1,7 +1,7 @@
 -- Where a begun tree is held, bytes are missing, and it is the one that is computed.
 use Rattle.std.proofs.Common.{◌≡◌, ℕ, zero, suc, ◌≤◌, List, [], ◌++◌, Option, Some}
 use Rattle.std.proofs.Common.{Err, refl, sym, ap, subst, ◌∙◌, append_assoc, arith}
-use Rattle.registry_core.specs.declared.type_info.TypeInfo.{TypeInfo}
+use Rattle.types_core.specs.declared.type_info.TypeInfo.{TypeInfo}
 use Rattle.widths_core.specs.Layouts.{layout}
 use Rattle.grammar_core.specs.Tree.{Trees, none, and, most_levels}
 use Rattle.grammar_core.specs.Parts.{Part, first_of, left_after, how_many_left}

@@ -8,7 +8,7 @@ use Rattle.std.proofs.lemmas.Bool.{cases_lt}
 use Rattle.std.proofs.lemmas.List.{append-nil, length-take}
 use Rattle.std.proofs.Math.Seq.{take-append-add}
 use Rattle.scale_core.specs.Read.{Read, place}
-use Rattle.registry_core.specs.declared.type_info.TypeInfo.{TypeInfo}
+use Rattle.types_core.specs.declared.type_info.TypeInfo.{TypeInfo}
 use Rattle.grammar_core.specs.Tree.{Tree}
 use Rattle.grammar_core.specs.Preorder.{preorder, tree_of, tree_of-preorder}
 use Rattle.grammar_core.specs.Reading.{value_at, Refusal, truncated}

@@ -1,7 +1,7 @@
 -- Each turn of the machine keeps what the whole reading says.
 use Rattle.std.proofs.Common.{◌≡◌, ℕ, suc, ◌+◌, ◌<◌, List, [], ◌∷◌, ◌++◌, length, Some, None, Ok}
 use Rattle.std.proofs.Common.{refl, ap, arith, length-append}
-use Rattle.registry_core.specs.declared.type_info.TypeInfo.{TypeInfo}
+use Rattle.types_core.specs.declared.type_info.TypeInfo.{TypeInfo}
 use Rattle.grammar_core.specs.Parts.{Part, each, times}
 use Rattle.value_core.specs.Built.{Entry}
 use Rattle.grammar_core.specs.Preorder.{Head}

@@ -5,7 +5,7 @@ use Rattle.std.proofs.lemmas.Grind.{flat_map-append}
 use Rattle.std.proofs.lemmas.List.{append-nil}
 use Rattle.scale_core.specs.Number.{AreBytes}
 use Rattle.scale_core.proofs.Numbers.{front_bytes, rest_bytes}
-use Rattle.registry_core.specs.declared.type_info.TypeInfo.{TypeInfo}
+use Rattle.types_core.specs.declared.type_info.TypeInfo.{TypeInfo}
 use Rattle.graph_core.specs.Types.{shape}
 use Rattle.grammar_core.specs.Parts.{Part, each, times}
 use Rattle.grammar_core.specs.Preorder as head

@@ -6,7 +6,7 @@ use Rattle.scale_core.specs.Read.{Read, place, compact_at}
 use Rattle.scale_core.specs.declared.compact.Target.TheVariants as target
 use Rattle.scale_core.specs.declared.fault.Reason.{Reason}
 use Rattle.scale_core.specs.declared.fault.Reason.TheVariants as scale
-use Rattle.registry_core.specs.declared.definition.Arm.{Arm}
+use Rattle.types_core.specs.declared.definition.Arm.{Arm}
 use Rattle.widths_core.specs.Arms.{arm_of}
 use Rattle.graph_core.specs.Types.{field_types}
 use Rattle.widths_core.specs.Layouts.{Layout}

@@ -8,7 +8,7 @@ use Rattle.std.specs.Prelude.{true, is_none, Option, Some, None, ◌∷◌}
 use Rattle.grammar_core.specs.Parts.{first_of}
 use Rattle.grammar_core.specs.declared.form.Form.{Form}
 use Rattle.grammar_core.specs.declared.form.Next.TheVariants as next
-use Rattle.registry_core.specs.declared.type_info.TypeInfo.{TypeInfo}
+use Rattle.types_core.specs.declared.type_info.TypeInfo.{TypeInfo}
 use Rattle.value_core.specs.Refusals.{is_complete, is_whole_in}
 use Rattle.value_core.specs.Walked.{OpenPart, first_in, next_from, next_of}
 use Rattle.machine_core.specs.Machine.{State, remain, to_go}

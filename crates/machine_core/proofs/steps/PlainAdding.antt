@@ -4,9 +4,9 @@ use Rattle.std.proofs.lemmas.List.{append-nil}
 use Rattle.scale_core.specs.Number.{AreBytes}
 use Rattle.scale_core.specs.Read.{Read}
 use Rattle.scale_core.specs.declared.fault.Fault.{Fault}
-use Rattle.registry_core.specs.declared.kind.IntegerWidth.TheVariants as width
-use Rattle.registry_core.specs.declared.kind.Signedness.TheVariants as sign
-use Rattle.registry_core.specs.declared.type_info.TypeInfo.{TypeInfo}
+use Rattle.types_core.specs.declared.kind.IntegerWidth.TheVariants as width
+use Rattle.types_core.specs.declared.kind.Signedness.TheVariants as sign
+use Rattle.types_core.specs.declared.type_info.TypeInfo.{TypeInfo}
 use Rattle.widths_core.specs.Classes.{is_finite}
 use Rattle.widths_core.specs.Layouts.{Layout, Plain, layout}
 use Rattle.widths_core.specs.Layouts as layout

@@ -11,11 +11,11 @@ use Rattle.scale_core.specs.Read.{compact_at}
 use Rattle.scale_core.specs.declared.compact.Target.{Target}
 use Rattle.scale_core.specs.declared.compact.Target.TheVariants as target
 use Rattle.scale_core.specs.declared.fault.Reason.TheVariants as scale
-use Rattle.registry_core.specs.Kinds.{kind_of, width_bytes}
-use Rattle.registry_core.specs.declared.kind.PrimitiveKind.{PrimitiveKind}
-use Rattle.registry_core.specs.declared.kind.PrimitiveKind.TheVariants as K
-use Rattle.registry_core.proofs.Widths.{width_some}
-use Rattle.registry_core.specs.declared.type_info.TypeInfo.{TypeInfo}
+use Rattle.types_core.specs.Kinds.{kind_of, width_bytes}
+use Rattle.types_core.specs.declared.kind.PrimitiveKind.{PrimitiveKind}
+use Rattle.types_core.specs.declared.kind.PrimitiveKind.TheVariants as K
+use Rattle.types_core.proofs.Widths.{width_some}
+use Rattle.types_core.specs.declared.type_info.TypeInfo.{TypeInfo}
 use Rattle.widths_core.specs.Layouts.{Plain, Layout, layout, kind_layout}
 use Rattle.widths_core.specs.Layouts as layout
 use Rattle.widths_core.specs.declared.run_kind.RunKind.{RunKind}

@@ -13,10 +13,10 @@ use Rattle.scale_core.specs.declared.compact.Target.{Target}
 use Rattle.scale_core.specs.declared.compact.Target.TheVariants as target
 use Rattle.scale_core.specs.declared.fault.Reason.{Reason}
 use Rattle.scale_core.specs.declared.fault.Reason.TheVariants as scale
-use Rattle.registry_core.specs.declared.definition.Arm.{Arm}
-use Rattle.registry_core.specs.Kinds.{kind_of}
-use Rattle.registry_core.specs.declared.kind.PrimitiveKind.{PrimitiveKind}
-use Rattle.registry_core.specs.declared.kind.PrimitiveKind.TheVariants as K
+use Rattle.types_core.specs.declared.definition.Arm.{Arm}
+use Rattle.types_core.specs.Kinds.{kind_of}
+use Rattle.types_core.specs.declared.kind.PrimitiveKind.{PrimitiveKind}
+use Rattle.types_core.specs.declared.kind.PrimitiveKind.TheVariants as K
 use Rattle.widths_core.specs.Arms.{arm_of}
 use Rattle.widths_core.specs.Layouts.{Plain, Layout, kind_layout}
 use Rattle.widths_core.specs.Layouts as layout

@@ -11,11 +11,9 @@ ghost use Rattle.registry_core.specs.Reading.{type_ids_at, option_at, byte_at};
 use super::lists::append;
 use super::read_stop::ReadStop;
 use crate::fault::RegistryReason;
-use crate::items::Items;
-use crate::text::Text;
-use crate::type_id::TypeId;
 use scale_core::{Target, read_compact, read_text, read_u32};
 use std::alloc::Global;
+use types_core::{Items, Text, TypeId};
 
 /// Reads a length or an id.
 ///

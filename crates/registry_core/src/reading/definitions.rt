@@ -13,14 +13,9 @@ use super::atoms::{
 };
 use super::lists::append;
 use super::read_stop::ReadStop;
-use crate::definition::{Arm, Field, TypeDef};
 use crate::fault::RegistryReason;
-use crate::fields::Fields;
-use crate::items::Items;
-use crate::name::Name;
-use crate::primitive::Primitive;
-use crate::text::Text;
 use std::alloc::Global;
+use types_core::{Arm, Field, Fields, Items, Name, Primitive, Text, TypeDef};
 
 /// Returns the text as a name.
 fn named(text: Option<Text>) -> Option<Name>

@@ -10,9 +10,8 @@ use super::definitions::definition_of;
 use super::lists::append;
 use super::read_stop::ReadStop;
 use crate::fault::RegistryReason;
-use crate::items::Items;
-use crate::type_info::{Param, TypeInfo};
 use std::alloc::Global;
+use types_core::{Items, Param, TypeInfo};
 
 /// Reads a parameter.
 ///

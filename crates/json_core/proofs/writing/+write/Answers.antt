@@ -1,7 +1,7 @@
 -- The cycle of functions that writes a node and all that is below it, a section for each.
 use Rattle.std.proofs.Common.{◌≡◌, [], ◌∷◌, ◌+◌, length, map, drop, rules, arith, inl, inr, refl}
 use Rattle.std.proofs.Common.{ap, ap₂, sym, ◌∙◌, option_map, Bor, List, Some, get_or}
-use Rattle.registry_core.specs.declared.definition.Field.{Field}
+use Rattle.types_core.specs.declared.definition.Field.{Field}
 use Rattle.std.specs.Slice.Iter.{iter_rest}
 use Rattle.std.specs.Int.{w128}
 use Rattle.std.proofs.lemmas.Int.{to_z-of_z}

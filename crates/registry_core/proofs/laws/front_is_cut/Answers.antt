@@ -1,4 +1,4 @@
-use Rattle.registry_core.specs.Fits.{FitsRegistry}
+use Rattle.types_core.specs.Fits.{FitsRegistry}
 use Rattle.registry_core.specs.Laws.{FitsMetadata, metadata_of}
 use Rattle.registry_core.specs.Reading.{metadata_at, registry_at}
 use Rattle.registry_core.specs.Spelling.{spelling}

@@ -1,5 +1,5 @@
 use Rattle.std.proofs.Common.{arith}
-use Rattle.registry_core.specs.Fits.{FitsRegistry}
+use Rattle.types_core.specs.Fits.{FitsRegistry}
 use Rattle.registry_core.specs.Reading.{registry_at}
 use Rattle.registry_core.specs.Spelling.{spelling}
 use Rattle.registry_core.proofs.Whole.{are_bytes, registry_codec, ok_within, ok_exact, ok_found}

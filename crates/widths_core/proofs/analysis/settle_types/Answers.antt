@@ -1,5 +1,5 @@
 use Rattle.std.proofs.Common.{◌≡◌, List, sym, subst, ◌∙◌}
-use Rattle.registry_core.specs.declared.type_info.TypeInfo.{TypeInfo}
+use Rattle.types_core.specs.declared.type_info.TypeInfo.{TypeInfo}
 use Rattle.widths_core.specs.Progress.{progress_of}
 use Rattle.widths_core.specs.Propagation.{IsBad, PropagatesAll, AreCompactsSettled}
 use Rattle.widths_core.proofs.PartsOf.{all_references}

@@ -1,6 +1,6 @@
 use Rattle.std.proofs.Common.{Ok, refl}
 use Rattle.std.proofs.lemmas.Result.{err_from_is_err_and}
-use Rattle.registry_core.specs.declared.definition.TypeDef.TheVariants as def
+use Rattle.types_core.specs.declared.definition.TypeDef.TheVariants as def
 use Rattle.registry_core.specs.Reading.{definition_at, type_id_at}
 use Rattle.registry_core.proofs.Loops.{stops_then}
 use Rattle.registry_core.proofs.reading.definitions.definition_of.Goals as goal

@@ -1,5 +1,5 @@
 use Rattle.std.proofs.Common.{rules, ◌≡◌, ◌∙◌, true, sym, ap, subst, List}
-use Rattle.registry_core.specs.declared.type_info.TypeInfo.{TypeInfo}
+use Rattle.types_core.specs.declared.type_info.TypeInfo.{TypeInfo}
 use Rattle.node_core.specs.Shown.{IsWhole, seen}
 use Rattle.value_core.specs.Building.{pieces_shown}
 use Rattle.value_core.specs.Refusals.{is_whole_in}

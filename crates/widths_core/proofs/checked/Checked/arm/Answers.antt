@@ -1,7 +1,7 @@
 use Rattle.std.proofs.Common.{◌≡◌, ◌≤◌, length, get_or, Some, ap, sym, ◌∙◌, rules, arith}
 use Rattle.std.proofs.lemmas.Option.{slice_get_within, get_or_from_slice_get}
-use Rattle.registry_core.specs.declared.definition.Arm.{Arm}
-use Rattle.registry_core.specs.declared.definition.TypeDef.TheVariants as Def
+use Rattle.types_core.specs.declared.definition.Arm.{Arm}
+use Rattle.types_core.specs.declared.definition.TypeDef.TheVariants as Def
 use Rattle.graph_core.specs.Types.{shape}
 use Rattle.widths_core.specs.Steps.{references_of}
 use Rattle.widths_core.proofs.ArmReads.{arm_read}

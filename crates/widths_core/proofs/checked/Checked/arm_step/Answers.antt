@@ -1,6 +1,6 @@
 use Rattle.std.proofs.Common.{◌≡◌, List, Some, None, slice_get, sym, ◌∙◌, rules}
-use Rattle.registry_core.specs.declared.definition.Arm.{Arm}
-use Rattle.registry_core.specs.declared.definition.TypeDef.TheVariants as Def
+use Rattle.types_core.specs.declared.definition.Arm.{Arm}
+use Rattle.types_core.specs.declared.definition.TypeDef.TheVariants as Def
 use Rattle.graph_core.specs.Types.{shape}
 use Rattle.widths_core.specs.Steps.{references_of, IsRow}
 use Rattle.widths_core.proofs.ArmReads.{arm_none, arm_found, row_at}

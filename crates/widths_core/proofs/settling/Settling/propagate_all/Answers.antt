@@ -1,6 +1,6 @@
 use Rattle.std.proofs.Common.{◌≡◌, ◌<◌, List, length, get_or, sym, subst, arith}
 use Rattle.std.proofs.lemmas.List.{get_or_read}
-use Rattle.registry_core.specs.declared.type_info.TypeInfo.{TypeInfo}
+use Rattle.types_core.specs.declared.type_info.TypeInfo.{TypeInfo}
 use Rattle.widths_core.specs.Progress.{progress_of}
 use Rattle.widths_core.specs.Propagation.{IsPending, Propagates}
 use Rattle.widths_core.proofs.PropagatesOne.{pending_is, so_far_more}

@@ -1,7 +1,0 @@
-use Rattle.std.proofs.Common.{arith}
-use Rattle.token_core.proofs.AsIs.{tells_from_lanes}
-use Rattle.token_core.proofs.plain.is_plain_8.Goals as goal
-
-pub returns : goal.returns
-returns c =
-    tells_from_lanes c.args.text.now c.args.at 8 c.requires (omega arith) c.type_inv.text

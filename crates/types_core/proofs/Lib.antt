@@ -1,0 +1,3 @@
+pub mod KeyMaps
+pub mod KeyOrders
+pub mod Widths

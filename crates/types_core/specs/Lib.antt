@@ -1,0 +1,4 @@
+pub mod Bytes
+pub mod Fits
+pub mod Keys
+pub mod Kinds

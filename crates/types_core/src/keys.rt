@@ -1,0 +1,143 @@
+//! How the values of fields are shown, found from their names.
+
+ghost use Rattle.std.specs.Prelude.{◌≡◌, ◌<◌, ◌^◌, ◌≤◌, ◌↔◌, [], Some, length, option_map};
+ghost use Rattle.std.specs.Prelude.{IfOk, IsTrue};
+ghost use Rattle.std.specs.List.{range_with_len};
+ghost use Rattle.types_core.specs.Keys.{AreKeys, is_there, key_order, lent_entries, order_from};
+ghost use Rattle.types_core.specs.Keys.{place_among, positions_of};
+
+use crate::definition::Field;
+use arrayvec::ArrayVec;
+use std::alloc::{AllocError, Global};
+use std::cmp::Ordering;
+use std::collections::BTreeMap;
+
+/// The most fields that are few: inserting so many names into a list costs less than a map.
+const FEW: usize = 8;
+
+/// How the values of fields are shown.
+#[derive(Debug, Drop)]
+pub enum Keys {
+    /// As an array, because there is no field, one has no name, or two have the same.
+    Unnamed,
+    /// As an object, whose names are in the order of their bytes.
+    InOrder,
+    /// As an object: the positions of the fields in the order of their names' bytes.
+    Sorted(Vec<u32>),
+}
+
+/// Returns whether the name is one of these.
+fn is_among(names: &[(&str, u32)], name: &str) -> bool
+    ensures { result ≡ is_there name.now (lent_entries names.now) }
+{
+    'names: for (other, _) in names {
+        if name == *other {
+            return true;
+        }
+    }
+    false
+}
+
+/// Returns how many of these names, from the first on, come before the name.
+fn place_among(names: &[(&str, u32)], name: &str) -> usize
+    ensures { result ≡ place_among name.now (lent_entries names.now) }
+{
+    let mut place = 0;
+    'names: while place < names.len() {
+        if name.cmp(names[place].0) != Ordering::Greater {
+            return place;
+        }
+        place += 1;
+    }
+    place
+}
+
+/// Returns the positions of few fields in the order of their names' bytes, if each has a name and
+/// all names differ. It inserts the names into a sorted list, and allocates nothing.
+fn order_of_few(fields: &[Field]) -> Option<ArrayVec<u32, FEW>>
+    requires { length fields.now ≤ FEW }
+    ensures { option_map (λ v. v.items) result
+        ≡ option_map positions_of (order_from fields.now 0 []) }
+{
+    let mut names: ArrayVec<(&str, u32), FEW> = ArrayVec::new();
+    'fields: for (position, field) in fields.iter().enumerate() {
+        let name = field.name.as_ref()?.as_str();
+        if is_among(names.as_slice(), name) {
+            return None;
+        }
+        let place = place_among(names.as_slice(), name);
+        names.insert(place, (name, position as u32));
+    }
+    let mut order = ArrayVec::new();
+    'names: for (_, position) in names.as_slice() {
+        order.push(*position);
+    }
+    Some(order)
+}
+
+/// Returns the positions of fields in the order of their names' bytes, if each has a name and all
+/// names differ. It inserts the names into a map: a look-up for each field.
+fn order_of_many(alloc: Global, fields: &[Field]) -> Result<Option<Vec<u32>>, AllocError>
+    requires { length fields.now < 2 ^ 32 }
+    ensures { IfOk result (λ found. option_map (λ v. v.items) found
+        ≡ option_map positions_of (order_from fields.now 0 [])) }
+{
+    let mut positions = BTreeMap::new(alloc);
+    'fields: for (position, field) in fields.iter().enumerate() {
+        let Some(name) = &field.name else {
+            return Ok(None);
+        };
+        if positions.insert(name.as_str(), position as u32)?.is_some() {
+            return Ok(None);
+        }
+    }
+    let mut order = Vec::with_capacity(alloc, fields.len())?;
+    'names: for (_, position) in positions {
+        order.push(position)?;
+    }
+    Ok(Some(order))
+}
+
+/// Returns whether each entry is its own index.
+fn counts_up(order: &[u32]) -> bool
+    ensures { IsTrue result ↔ (order.now ≡ range_with_len 0 (length order.now)) }
+{
+    'places: for (place, position) in order.iter().enumerate() {
+        if *position as usize != place {
+            return false;
+        }
+    }
+    true
+}
+
+/// Returns how the values of fields with this order are shown. It allocates only if the names are
+/// out of order.
+fn keys_in(alloc: Global, fields: &[Field], order: &[u32]) -> Result<Keys, AllocError>
+    requires { key_order fields.now ≡ Some order.now }
+    ensures { IfOk result (λ keys. AreKeys fields.now keys) }
+{
+    if counts_up(order) {
+        return Ok(Keys::InOrder);
+    }
+    let mut kept = Vec::with_capacity(alloc, order.len())?;
+    kept.extend_from_slice(order)?;
+    Ok(Keys::Sorted(kept))
+}
+
+/// Returns how the values of the fields are shown.
+pub(crate) fn keys_of(alloc: Global, fields: &[Field]) -> Result<Keys, AllocError>
+    requires { length fields.now < 2 ^ 32 }
+    ensures { IfOk result (λ keys. AreKeys fields.now keys) }
+{
+    match fields.len() {
+        0 => Ok(Keys::Unnamed),
+        1..=FEW => match order_of_few(fields) {
+            Some(order) => keys_in(alloc, fields, order.as_slice()),
+            None => Ok(Keys::Unnamed),
+        },
+        _ => match order_of_many(alloc, fields)? {
+            Some(order) => keys_in(alloc, fields, order.as_slice()),
+            None => Ok(Keys::Unnamed),
+        },
+    }
+}

@@ -1,0 +1,48 @@
+//! A registry of types.
+
+ghost use Rattle.std.specs.Prelude.{◌≡◌};
+
+use crate::type_info::TypeInfo;
+use std::marker::Model;
+
+/// The types of a registry, each at the position that is its id (scale-info, `PortableRegistry`).
+///
+/// Every registry has an encoding: a list has at most 4294967295 elements, and a text at most
+/// 4294967295 bytes, which are UTF-8.
+#[derive(Debug, Drop)]
+pub struct Registry {
+    types: Vec<TypeInfo>,
+}
+
+impl Model for Registry {
+    ghost use Rattle.std.specs.Prelude.{List};
+    ghost use Rattle.types_core.specs.declared.type_info.TypeInfo.{TypeInfo};
+
+    ghost Value = { List TypeInfo };
+
+    ghost use Rattle.types_core.specs.Fits.{FitsRegistry};
+
+    ghost view = { λ r. r.types.items };
+
+    ghost invariant = { λ r. FitsRegistry r.types.items };
+}
+
+impl Registry {
+    ghost use Rattle.types_core.specs.Fits.{FitsRegistry};
+
+    /// Creates a registry of types that have an encoding.
+    pub fn from_types(types: Vec<TypeInfo>) -> Registry
+        requires { FitsRegistry types.items }
+        ensures { result ≡ types.items }
+    {
+        Registry { types }
+    }
+
+    /// Returns the types in order. The type at position i has the id i.
+    pub fn types(&self) -> &[TypeInfo]
+        ensures same { result.now ≡ self.now }
+        ensures fits { FitsRegistry self.now }
+    {
+        self.types.as_slice()
+    }
+}
