@@ -7,11 +7,9 @@ use Rattle.std.specs.Prelude.{IfSome, ◌⊎◌, Result}
 use Rattle.std.specs.Io.KnownBytes.{Consumes, IsAtEnd, Keeps}
 use Rattle.std.proofs.KnownBytes.{Consumes-kept}
 use Rattle.std.proofs.lemmas.List.{length-take, nil_from_length}
-use Rattle.types_core.specs.declared.type_info.TypeInfo.{TypeInfo}
-use Rattle.grammar_core.specs.declared.limits.Limits.{Limits}
 use Rattle.grammar_core.specs.Tree.{Tree}
 use Rattle.decode_core.specs.Decoding.{AnswersPiece, Decoding, FinishesDecoder, IsEnded, Led}
-use Rattle.decode_core.specs.Decoding.{OpensDecoder, first_of_all}
+use Rattle.decode_core.specs.Decoding.{OpensDecoder}
 use Rattle.machine_core.specs.Outcome.{Job, done, more, IsOutcome}
 use Rattle.decode_core.specs.Streaming.{EndsAt, FeedsAll, IsUnderWay, LeavesOpen, Looks}
 use Rattle.decode_core.specs.Streaming.{Gives, ReadOf, StopsOpen, Trails}
@@ -32,16 +30,6 @@ pub opened : (o : Option OpenFault) (first d : Decoding) → OpensDecoder o firs
     × (d ≡ first)
 opened None first d h = (refl, h)
 opened (Some f) first d h = absurd h
-
--- a decoder that has taken nothing is under way on no bytes
-pub starts : (types : List TypeInfo) (root : ℕ) (limits : Limits) (d : Decoding) →
-    d ≡ first_of_all types root limits → Led d [] → IsUnderWay d []
-starts types root limits d is led = record {
-  led = led;
-  count = ap (λ (x : Decoding). x.taken) is;
-  fits = omega arith;
-  goes_on = inl refl;
-}
 
 -- ---- where a value ends
 

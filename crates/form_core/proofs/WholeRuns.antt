@@ -9,7 +9,6 @@ use Rattle.std.proofs.lemmas.List.{drop-drop, length-drop, length-take}
 use Rattle.std.proofs.lemmas.List.{take-append-drop, take_at}
 use Rattle.std.proofs.lemmas.Str.{IsUtf8-from_is_utf8}
 use Rattle.scale_core.specs.Read.{Read, ◌>>=◌, bytes_at}
-use Rattle.scale_core.specs.declared.compact.Target.TheVariants as target
 use Rattle.scale_core.specs.declared.fault.Reason.{Reason}
 use Rattle.scale_core.proofs.Again.{bytes_again}
 use Rattle.scale_core.proofs.Results.{Takes}
@@ -21,7 +20,6 @@ use Rattle.grammar_core.proofs.Runs.{run_takes}
 use Rattle.node_core.specs.Leaves.{leaf_head, FitsLeaf}
 use Rattle.node_core.specs.declared.leaf.Leaf.{Leaf}
 use Rattle.node_core.specs.declared.leaf.Leaf.TheVariants as leaf
-use Rattle.form_core.specs.WholeCompacts.{IsCompactAtFront}
 use Rattle.form_core.specs.WholeRuns.{IsAtFront, IsLengthAtFront, ReadsRun, run_bytes_at}
 
 -- what is read, with so many bytes, stood on the front in its one spelling
@@ -50,15 +48,6 @@ pub run_spelled : (k : RunKind) (piece : List ℕ) (l : Leaf) (count : ℕ)
 run_spelled k piece l count h =
     spelled_by (SpellsRun k) piece h.bytes count (run_at k piece) h.within (run_takes k piece)
     h.read
-
--- a compact integer of 32 bits is the length of a text
-pub counted : (piece : List ℕ) (n count : ℕ) → IsCompactAtFront target.U32 piece n count →
-    IsLengthAtFront kind.Text piece n count
-counted piece n count h = record {
-  within = h.within;
-  few = omega (arith, h.fits);
-  read = h.read;
-}
 
 -- where a length is read, and so many bytes stand after it, they are those of the run
 pub bytes_read : (k : RunKind) (piece s : List ℕ) (n start : ℕ) →

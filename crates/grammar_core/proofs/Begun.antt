@@ -1,14 +1,9 @@
 -- How deep a begun tree is.
-use Rattle.std.proofs.Common.{◌≡◌, ℕ, zero, suc, ◌+◌, ◌≤◌, true, false, Option, Some, None, refl}
+use Rattle.std.proofs.Common.{◌≡◌, ℕ, zero, suc, true, false, Option, Some, None, refl}
 use Rattle.std.proofs.Common.{sym, ap, ◌∙◌, arith}
 use Rattle.grammar_core.specs.Begun.{Begun, nothing, whole, open_branch, IsPart, Grows}
-use Rattle.grammar_core.specs.Begun.{begun_levels, begun_depth, is_whole_tree}
+use Rattle.grammar_core.specs.Begun.{is_whole_tree}
 use Rattle.grammar_core.specs.Laws.{BegunTreesFit}
-
-abbrev FitsRoom : ℕ → Begun → Option (ℕ × ℕ) → Type 0
-FitsRoom room g next = (begun_levels g ≤ room)
-    × ((left u : ℕ) → next ≡ Some (left, u) → (is_whole_tree g ≡ false)
-    × (left + begun_depth g ≡ room)) × (next ≡ None → is_whole_tree g ≡ true)
 
 -- if what is missing first is given twice, the levels left for it are the same
 room_is : (p q : ℕ × ℕ) → Some p ≡ Some q → p.0 ≡ q.0

@@ -1,5 +1,5 @@
 -- Which values take no bytes.
-use Rattle.std.proofs.Common.{◌≡◌, ℕ, suc, ◌≤◌, Bool, true, false, List, [], ◌∷◌, ◌++◌, length}
+use Rattle.std.proofs.Common.{◌≡◌, ℕ, suc, ◌≤◌, true, List, [], ◌∷◌, ◌++◌, length}
 use Rattle.std.proofs.Common.{refl, sym, ap, subst, ◌∙◌, arith, inl, inr}
 use Rattle.std.specs.List.{list_all}
 use Rattle.scale_core.specs.Compact.{IsCompact}
@@ -23,20 +23,10 @@ use Rattle.grammar_core.proofs.Ways.{spelled_as}
 use Rattle.grammar_core.specs.Grammar.{Val, Vals}
 use Rattle.grammar_core.specs.Laws.{EmptyHasUnit, SizedHasBytes}
 
-abbrev is_nil : List ℕ → Bool
-is_nil [] = true
-is_nil (x ∷ xs) = false
-
 -- two lists that are empty when joined are both empty
 nil_parts : (a b : List ℕ) → a ++ b ≡ [] → (a ≡ []) × (b ≡ [])
 nil_parts [] b e = (refl, e)
 nil_parts (x ∷ a) b e = absurd cc
-
--- the forms are apart
-other : {X : Type 0} (r : List TypeInfo) (t : ℕ) (f : Layout) →
-    layout r t ≡ (layout.plain layout.empty) → layout r t ≡ f →
-    ((layout.plain layout.empty) ≡ f → X) → X
-other r t f e h k = k (sym e ∙ h)
 
 -- what a type's layout says of its class and parts is so, where the layout is known by an equation
 pub known_at : (r : List TypeInfo) (t : ℕ) (f : Layout) → layout r t ≡ f → KnowsLayout r t f

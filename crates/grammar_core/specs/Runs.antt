@@ -1,11 +1,11 @@
 -- Runs of bytes that a value contains verbatim: texts, and sequences and arrays of u8 (SCALE codec,
 -- "Strings" and "Types").
-use Rattle.std.specs.Prelude.{◌≡◌, ℕ, List, [], ◌++◌, length, drop, true, Option, Some, None, Ok}
+use Rattle.std.specs.Prelude.{◌≡◌, ℕ, List, [], ◌++◌, length, drop, true, Ok}
 use Rattle.std.specs.Prelude.{Err, if◌then◌else◌}
 use Rattle.std.specs.Str.{is_utf8}
 use Rattle.std.specs.Str.Lossy.{utf8_valid_len}
 use Rattle.scale_core.specs.Compact.{IsCompact, compact}
-use Rattle.scale_core.specs.Read.{Read, ◌>>=◌, bytes_at, compact_at}
+use Rattle.scale_core.specs.Read.{Read, bytes_at, compact_at}
 use Rattle.scale_core.specs.declared.compact.Target.TheVariants as target
 use Rattle.scale_core.specs.declared.fault.Reason.{Reason}
 use Rattle.scale_core.specs.declared.fault.Reason.TheVariants as reason
@@ -28,12 +28,6 @@ abbrev pub run_form : RunKind → Form
 run_form kind.Text = form.Primitive P.Str
 run_form kind.Bytes = form.Bytes
 run_form (kind.ByteArray n) = form.ByteArray n
-
-abbrev pub run_of_form : Form → Option RunKind
-run_of_form (form.Primitive P.Str) = Some kind.Text
-run_of_form form.Bytes = Some kind.Bytes
-run_of_form (form.ByteArray n) = Some (kind.ByteArray n)
-run_of_form _ = None
 
 -- ---- how it is spelled
 

@@ -5,14 +5,12 @@ use Rattle.std.proofs.Common.{◌∷◌, ◌++◌, length, drop, Option, Some, N
 use Rattle.std.proofs.Common.{subst}
 use Rattle.std.proofs.Common.{◌∙◌, arith}
 use Rattle.std.specs.Prelude.{is_some}
-use Rattle.std.proofs.lemmas.Bool.{lt-ltb}
-use Rattle.std.proofs.lemmas.List.{append_assoc}
 use Rattle.types_core.specs.declared.definition.TypeDef.{TypeDef}
 use Rattle.types_core.specs.declared.type_info.TypeInfo.{TypeInfo}
 use Rattle.graph_core.specs.declared.graph.Graph.{Graph}
 use Rattle.graph_core.specs.Types.{shape}
 use Rattle.graph_core.specs.Cursors.{left, parts_left, arms_left, arm_references}
-use Rattle.graph_core.specs.Graphs.{ReadsOn, IsReadNext, BeginsArm, IsOpened}
+use Rattle.graph_core.specs.Graphs.{ReadsOn, BeginsArm, IsOpened}
 use Rattle.graph_core.specs.References.{AreKnown, first_unknown, unknown_from, first_fault}
 use Rattle.graph_core.specs.Stops.{IsUnderWay, HasFewLooksUntil}
 use Rattle.graph_core.specs.Unknown.{FindsUnknown, FindsUnknownPart}
@@ -44,19 +42,6 @@ pub record PartsSoFar (a b : Graph) : Type 0 where
   pub arms : arms_left b ≡ arms_left a
   pub unknown : first_unknown (length a.registry) (parts_left a)
       ≡ first_unknown (length a.registry) (parts_left b)
-
--- one more that is a position was read
-pub so_far_more : (a b c : Graph) (u : ℕ) → PartsSoFar a b → IsReadNext b c (Some u) →
-    u < length a.registry → PartsSoFar a c
-so_far_more a b c u h k lt = record {
-  front = h.front ++ u ∷ [];
-  on = on_more a b c h.front (u ∷ []) h.on k.on;
-  parts = h.parts ∙ ap (λ (xs : List ℕ). h.front ++ xs) k.parts
-      ∙ sym (append_assoc h.front (u ∷ []) (parts_left c));
-  arms = k.arms ∙ h.arms;
-  unknown = h.unknown ∙ ap (first_unknown (length a.registry)) k.parts
-      ∙ rw (lt-ltb u (length a.registry) lt) refl;
-}
 
 -- ---- what is left of the open definition
 

@@ -12,7 +12,7 @@ use Rattle.node_core.specs.declared.node.Content.{Content}
 use Rattle.node_core.specs.declared.node.Content.TheVariants as is
 use Rattle.node_core.specs.declared.node.Node.{Node}
 use Rattle.record_core.specs.Records.{pool_bytes, pool_of, record_of, records_from}
-use Rattle.record_core.specs.Written.{StandsIn, room_of}
+use Rattle.record_core.specs.Written.{StandsIn}
 use Rattle.record_core.specs.declared.record.Record.{Record}
 
 -- the bytes that a node has in the pool are those of the node that is shown
@@ -188,9 +188,3 @@ all_le bytes (n ∷ ns) =
       all_le bytes ns,
       length-append own (pool_of (cells_shown bytes ns)),
     )
-
--- so many nodes and bytes take this room
-pub room_is : (bytes : List ℕ) (ns : List Node) (k n : ℕ) → k ≡ length ns →
-    n ≡ length (pool_of (cells_shown bytes ns)) →
-    record { records = k; pool = n } ≡ room_of (cells_shown bytes ns)
-room_is bytes ns k n e f = rw (f, e, length-map ns (cell_shown bytes)) refl

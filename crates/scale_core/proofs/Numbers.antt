@@ -1,6 +1,6 @@
 -- Bytes of numbers, and back.
-use Rattle.std.proofs.Common.{◌≡◌, ℕ, zero, suc, ◌+◌, ◌-◌, ◌*◌, ◌/◌, ◌%◌, ◌^◌, ◌<◌, ◌≤◌, Bool, true}
-use Rattle.std.proofs.Common.{false, cond, List, [], ◌∷◌, ◌++◌, length, refl, sym, ap, ◌∙◌, arith}
+use Rattle.std.proofs.Common.{◌≡◌, ℕ, zero, suc, ◌+◌, ◌-◌, ◌*◌, ◌/◌, ◌%◌, ◌^◌, ◌<◌, ◌≤◌}
+use Rattle.std.proofs.Common.{List, [], ◌∷◌, ◌++◌, length, refl, sym, ap, ◌∙◌, arith}
 use Rattle.std.proofs.Common.{inl, inr}
 use Rattle.std.specs.Prelude.{ℤ, pos, negsuc, neg_ℤ}
 use Rattle.std.proofs.lemmas.Bool.{cases_lt, le-ltb, lt-ltb}
@@ -83,22 +83,6 @@ number_one a b h k len same = sym (le_bytes-number a h) ∙ ap (λ (n : ℕ). le
 pub neg-pos : (x : ℕ) → 0 < x → neg_ℤ (pos x) ≡ negsuc (x - 1)
 neg-pos zero h = absurd (omega arith)
 neg-pos (suc x) h = ap negsuc (omega arith)
-
-abbrev signed_number_from : Bool → ℕ → ℕ → ℤ
-signed_number_from b range n = cond b (pos n) (neg_ℤ (pos (range - n)))
-
--- two numbers of one range that stand for the same signed number are the same
-signed_same : (range m n : ℕ) (b c : Bool) → m < range → n < range →
-    signed_number_from b range m ≡ signed_number_from c range n → m ≡ n
-signed_same range m n true true h k e = let e' : pos m ≡ pos n = e in cc
-signed_same range m n true false h k e = let e' : pos m ≡ negsuc (range - n - 1) = e
-    ∙ neg-pos (range - n) (omega arith) in absurd cc
-signed_same range m n false true h k e = let e' : pos n ≡ negsuc (range - m - 1) = sym e
-    ∙ neg-pos (range - m) (omega arith) in absurd cc
-signed_same range m n false false h k e =
-    let e' : negsuc (range - m - 1) ≡ negsuc (range - n - 1) =
-    sym (neg-pos (range - m) (omega arith)) ∙ e ∙ neg-pos (range - n) (omega arith) in
-    let same : range - m - 1 ≡ range - n - 1 = cc in omega (arith, same)
 
 -- ---- the laws of fixed widths
 

@@ -123,16 +123,6 @@ pub compact_has_layout : (r : List TypeInfo) (t : ℕ) (m : Target) →
     form_of r t ≡ next.Wants (form.Compact m) → layout r t ≡ layout.plain (layout.compact m)
 compact_has_layout r t m e = form_layout r t (form.Compact m) e
 
--- a type whose form is that of fields is laid out by fields
-pub fields_layout : (r : List TypeInfo) (t : ℕ) → form_of r t ≡ next.Wants form.Fields →
-    (ts : List ℕ) × (layout r t ≡ layout.fields ts)
-fields_layout r t e = form_layout r t form.Fields e
-
--- a type whose form is that of an array is laid out as an array of this length
-pub array_layout : (r : List TypeInfo) (t n : ℕ) → form_of r t ≡ next.Wants (form.Array n) → (u : ℕ)
-    × (layout r t ≡ layout.array n u)
-array_layout r t n e = form_layout r t (form.Array n) e
-
 -- a type whose form is a count alone is laid out as the length alone
 pub count_layout : (r : List TypeInfo) (t : ℕ) → form_of r t ≡ next.Wants form.Count →
     layout r t ≡ (layout.plain layout.counted)

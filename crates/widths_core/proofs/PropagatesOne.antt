@@ -308,11 +308,6 @@ so_far_more r a b c s n m done h lt k =
       )
           (omega (arith, k.propagated e small, h.propagated.propagated e small))
 
--- fewer types are left
-pub fewer : (r : List TypeInfo) (d : Graph) (s : Progress) (done : ℕ) → IsPropagatedTo r d s done →
-    done < length s.settled → length r - (done + 1) < length r - done
-fewer r d s done h lt = omega (arith, h.steady.consistent.room, lt)
-
 -- ---- at the reference before at
 
 -- at a place above 0, the reference one below is the next: to the type, and not propagated

@@ -1,9 +1,8 @@
 -- The step that is read is that of the type, and says its class and what a compact stands for.
 use Rattle.std.proofs.Common.{◌≡◌, ℕ, zero, suc, ◌<◌, ◌≤◌, Bool, true, false, List, [], ◌∷◌, length}
-use Rattle.std.proofs.Common.{Option, Some, None, refl, sym, subst, ◌∙◌, arith}
+use Rattle.std.proofs.Common.{Option, Some, None, refl, sym, subst, arith}
 use Rattle.std.specs.Prelude.{slice_get}
 use Rattle.std.proofs.lemmas.Option.{slice_get_within}
-use Rattle.scale_core.specs.declared.compact.Target.{Target}
 use Rattle.types_core.specs.declared.definition.Arm.{Arm}
 use Rattle.types_core.specs.declared.definition.TypeDef.{TypeDef}
 use Rattle.types_core.specs.declared.definition.TypeDef.TheVariants as Def
@@ -14,11 +13,10 @@ use Rattle.widths_core.specs.declared.rows.Rows.{Rows}
 use Rattle.widths_core.specs.declared.type_step.TypeStep.{TypeStep}
 use Rattle.widths_core.specs.declared.type_step.TypeStep.TheVariants as step
 use Rattle.graph_core.specs.Types.{shape}
-use Rattle.widths_core.specs.Targets.{compact_target_of_shape, compact_target_of}
 use Rattle.widths_core.specs.Classes.{class_of}
 use Rattle.widths_core.specs.Layouts.{is_byte}
 use Rattle.widths_core.specs.Steps.{references_of, IsRow, IsStep, IsTable, IsStepAt, by_class}
-use Rattle.widths_core.specs.Steps.{sequence_step, array_step, class_of_step, compact_of_step}
+use Rattle.widths_core.specs.Steps.{sequence_step, array_step, class_of_step}
 use Rattle.widths_core.proofs.Stable.{class_stable}
 use Rattle.widths_core.proofs.DraftsTo.{shape_within}
 
@@ -126,49 +124,6 @@ class_is r refs Row t (Def.Compact u) s e h = rw h (sym (class_stable r t (Def.C
 class_is r refs Row t (Def.BitSequence store order) s e h =
     rw h (class_by (class_of r t) step.NoValue step.BitSequence refl refl)
 
--- a step that is chosen by a class reports no target where the two to choose from report none
-compact_by : (c : Class) (none sized : TypeStep) → compact_of_step none ≡ None →
-    compact_of_step sized ≡ None → compact_of_step (by_class c none sized) ≡ None
-compact_by class.NoValue none sized e f = e
-compact_by class.Empty none sized e f = refl
-compact_by class.Sized none sized e f = f
-
--- the step of a sequence reports no target of a compact
-sequence_no_compact : (c : Class) (byte : Bool) (t : ℕ) →
-    compact_of_step (sequence_step c byte t) ≡ None
-sequence_no_compact class.NoValue true t = refl
-sequence_no_compact class.NoValue false t = refl
-sequence_no_compact class.Empty byte t = refl
-sequence_no_compact class.Sized true t = refl
-sequence_no_compact class.Sized false t = refl
-
--- the step of an array reports no target of a compact
-array_no_compact : (byte : Bool) (n t : ℕ) → compact_of_step (array_step byte n t) ≡ None
-array_no_compact true n t = refl
-array_no_compact false n t = refl
-
--- the step of a type reports the target where it is a compact, and else none
-compact_is : (r : List TypeInfo) (refs : List ℕ) (Row : ℕ → ℕ → List Arm → Type 0) (c : Class)
-    (d : TypeDef) (s : TypeStep) → IsStep r refs Row c d s →
-    compact_of_step s ≡ compact_target_of_shape r (Some d)
-compact_is r refs Row c (Def.Composite fs) s h =
-    rw h.2 (compact_by c step.NoValue (step.Parts h.0 h.1) refl refl)
-compact_is r refs Row c (Def.Tuple ts) s h =
-    rw h.2 (compact_by c step.NoValue (step.Parts h.0 h.1) refl refl)
-compact_is r refs Row c (Def.Variant arms) s h =
-    rw h.2 (compact_by c (step.NoArm h.0 h.1) (step.Arms h.0 h.1) refl refl)
-compact_is r refs Row c (Def.Sequence u) s h =
-    rw h (compact_by c step.NoValue (sequence_step (class_of r u.0) (is_byte (shape r u.0)) u.0)
-    refl (sequence_no_compact (class_of r u.0) (is_byte (shape r u.0)) u.0))
-compact_is r refs Row c (Def.Array n u) s h =
-    rw h (compact_by c step.NoValue (array_step (is_byte (shape r u.0)) n u.0) refl
-    (array_no_compact (is_byte (shape r u.0)) n u.0))
-compact_is r refs Row c (Def.Primitive p) s h =
-    rw h (compact_by c step.NoValue (step.Primitive p) refl refl)
-compact_is r refs Row c (Def.Compact u) s h = rw h refl
-compact_is r refs Row c (Def.BitSequence store order) s h =
-    rw h (compact_by c step.NoValue step.BitSequence refl refl)
-
 -- where a step is read, there is such a type, and the step reports its class
 pub class_read : (r : List TypeInfo) (t : ℕ) (o : Option TypeStep) (s : TypeStep) → IsStepAt r t o →
     o ≡ Some s → (t < length r) × (class_of_step s ≡ class_of r t)
@@ -183,18 +138,6 @@ class_read r t o s h f = go (shape r t) refl where
         rw same
             (class_is r (references_of r) (λ from count arms. Unit {0}) t d x.0 e x.2),
       )
-
--- what the step that is read reports of a target, or none without a step, is the type's own
-pub compact_read : (r : List TypeInfo) (t : ℕ) (o : Option TypeStep) (m : Option Target) →
-    IsStepAt r t o → ((s : TypeStep) → o ≡ Some s → m ≡ compact_of_step s) → (o ≡ None → m ≡ None) →
-    m ≡ compact_target_of r t
-compact_read r t o m h some none = go (shape r t) refl where
-  go : (x : Option TypeDef) → shape r t ≡ x → m ≡ compact_target_of r t
-  go None e = let is = rw (IsStepAt, e) at h in none is ∙ sym (rw e refl)
-  go (Some d) e =
-      let x = rw (IsStepAt, e) at h in
-      some x.0 x.1 ∙ compact_is r (references_of r) (λ from count arms. Unit {0}) (class_of r t) d
-      x.0 x.2 ∙ sym (rw e refl)
 
 -- the step of a type stays its step where registry and step are replaced by equal ones
 pub step_read : (r q : List TypeInfo) (t : ℕ) (o p : Option TypeStep) → q ≡ r → p ≡ o →

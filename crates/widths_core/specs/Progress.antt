@@ -98,7 +98,3 @@ part_settled s k f byte = let c = counter_after (counter_at s k) f.class in
 -- the tables have an entry for type t
 abbrev pub KnowsType : Progress → ℕ → Type 0
 KnowsType s t = (t < length s.classes) × (t < length s.targets) × (t < length s.steps)
-
--- the tables have an entry for the owner of each counter
-abbrev pub IsPlaced : Progress → Type 0
-IsPlaced s = (k : ℕ) → k < length s.counters → KnowsType s (counter_at s k).owner

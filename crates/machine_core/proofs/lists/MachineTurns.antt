@@ -1,5 +1,5 @@
 -- Each turn of the machine keeps what the whole reading says.
-use Rattle.std.proofs.Common.{◌≡◌, ℕ, suc, ◌+◌, ◌<◌, List, [], ◌∷◌, ◌++◌, length, Some, None, Ok}
+use Rattle.std.proofs.Common.{◌≡◌, ℕ, suc, ◌+◌, ◌<◌, List, [], ◌∷◌, ◌++◌, length, Some, None}
 use Rattle.std.proofs.Common.{refl, ap, arith, length-append}
 use Rattle.types_core.specs.declared.type_info.TypeInfo.{TypeInfo}
 use Rattle.grammar_core.specs.Parts.{Part, each, times}
@@ -7,10 +7,10 @@ use Rattle.value_core.specs.Built.{Entry}
 use Rattle.grammar_core.specs.Preorder.{Head}
 use Rattle.machine_core.specs.Reported.{entry, Reported, reported, added, after, then, all_reported}
 use Rattle.machine_core.specs.Reported.{times_reported}
-use Rattle.machine_core.specs.Reported.{part_reported, reported_at, rest_reported}
+use Rattle.machine_core.specs.Reported.{reported_at, rest_reported}
 use Rattle.machine_core.specs.Machine.{State, remain, to_go}
 use Rattle.machine_core.specs.Turned.{TurnLeads}
-use Rattle.machine_core.proofs.lists.Reports.{after-after, after-nil, then-after, then-then}
+use Rattle.machine_core.proofs.lists.Reports.{after-after, then-after, then-then}
 use Rattle.machine_core.proofs.lists.Owns.{SpellsNode}
 
 -- parts of these types are read as the first of them and then the others
@@ -30,19 +30,6 @@ unfolding rest_reported
 times_first r room n t ps b =
     then-then (reported_at r room t b) (times_reported (reported_at r room) n t)
     (rest_reported r (suc room) ps)
-
--- a part of which nothing is left is closed in a turn that takes no bytes
-pub closed : (r : List TypeInfo) (nodes : List Entry) (room : ℕ) (p : Part) (ps : List Part) →
-    ((b : List ℕ) → part_reported (reported_at r room) p b ≡ reported [] (Ok b)) →
-    TurnLeads r (record { nodes = nodes; room = room; pending = p ∷ ps })
-    (record { nodes = nodes; room = suc room; pending = ps }) []
-unfolding rest_reported
-closed r nodes room p ps e =
-    record {
-      reports = λ more. rw (e more, after-nil) refl;
-      level = omega arith;
-      paid = omega arith;
-    }
 
 -- what is first of what is pending, and what is pending after it
 abbrev pub IsFirstOf : List TypeInfo → ℕ → ℕ → List Part → List Part → Type 0
