@@ -8,7 +8,7 @@ use Rattle.std.proofs.lemmas.List.{take-append-drop, take_more}
 use Rattle.grammar_core.specs.Tree.{Tree}
 use Rattle.node_core.specs.Shown.{Seen}
 use Rattle.decode_core.specs.Decoding.{Decoding, FinishesDecoder, IsEnded, Led}
-use Rattle.machine_core.specs.Outcome.{Job, done, more, IsOutcome}
+use Rattle.outcome_core.specs.Outcome.{Job, done, more, IsOutcome}
 use Rattle.decode_core.specs.Streaming.{EndsAt, FeedsAll, IsFed, IsUnderWay, Joins, StopsOpen}
 use Rattle.decode_core.specs.Streaming.{Streams}
 use Rattle.decode_core.specs.declared.fault.DecodeFault.{DecodeFault}
@@ -17,8 +17,8 @@ use Rattle.decode_core.specs.declared.pieces.PiecesFault.TheVariants as pieces
 use Rattle.decode_core.specs.declared.stream.StreamFault.{StreamFault}
 use Rattle.decode_core.specs.declared.stream.StreamFault.TheVariants as stream
 use Rattle.decode_core.proofs.calls.Feeding.{ended_stays}
-use Rattle.machine_core.proofs.lists.OutcomeBound.{held_is_bounded}
-use Rattle.machine_core.proofs.lists.Outcomes.{one_outcome}
+use Rattle.outcome_core.proofs.OutcomeBound.{held_is_bounded}
+use Rattle.outcome_core.proofs.Outcomes.{one_outcome}
 use Rattle.decode_core.proofs.Streaming.{Whole, done_ends, done_stays, no_value}
 use Rattle.decode_core.proofs.Streaming.{under_way_ends}
 

@@ -10,7 +10,7 @@ use Rattle.std.proofs.lemmas.List.{length-take, nil_from_length}
 use Rattle.grammar_core.specs.Tree.{Tree}
 use Rattle.decode_core.specs.Decoding.{AnswersPiece, Decoding, FinishesDecoder, IsEnded, Led}
 use Rattle.decode_core.specs.Decoding.{OpensDecoder}
-use Rattle.machine_core.specs.Outcome.{Job, done, more, IsOutcome}
+use Rattle.outcome_core.specs.Outcome.{Job, done, more, IsOutcome}
 use Rattle.decode_core.specs.Streaming.{EndsAt, FeedsAll, IsUnderWay, LeavesOpen, Looks}
 use Rattle.decode_core.specs.Streaming.{Gives, ReadOf, StopsOpen, Trails}
 use Rattle.decode_core.specs.declared.decoder.Progress.{Progress}
@@ -20,8 +20,8 @@ use Rattle.decode_core.specs.declared.fault.OpenFault.{OpenFault}
 use Rattle.decode_core.specs.declared.stream.StreamFault.{StreamFault}
 use Rattle.decode_core.specs.declared.stream.StreamFault.TheVariants as stream
 use Rattle.decode_core.proofs.calls.Feeding.{ended_stays}
-use Rattle.machine_core.proofs.lists.Kept.{outcome_is_kept}
-use Rattle.machine_core.proofs.lists.Outcomes.{one_outcome}
+use Rattle.outcome_core.proofs.Kept.{outcome_is_kept}
+use Rattle.outcome_core.proofs.Outcomes.{one_outcome}
 
 -- ---- a decoder is made, or not
 

@@ -12,3 +12,4 @@ pub mod Wanted
 pub mod Small
 pub mod Holding
 pub mod Counting
+pub mod FaultBound

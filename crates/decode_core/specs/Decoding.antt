@@ -17,15 +17,16 @@ use Rattle.decode_core.specs.declared.fault.OpenFault.TheVariants as opening
 use Rattle.widths_core.specs.Layouts.{layout}
 use Rattle.graph_core.specs.Widths.{widest}
 use Rattle.grammar_core.specs.Begun.{Begun, begun_preorder, begun_nodes, begun_text_bytes}
-use Rattle.machine_core.specs.Bound.{node_bound, value_bound}
-use Rattle.machine_core.specs.Machine.{remain, start}
-use Rattle.machine_core.specs.Outcome.{Job, done, refused, more, too_long, IsOutcome}
+use Rattle.outcome_core.specs.Bound.{node_bound, value_bound}
+use Rattle.outcome_core.specs.Machine.{remain, start}
+use Rattle.outcome_core.specs.Outcome.{Job, done, refused, more, too_long, IsOutcome}
 use Rattle.machine_core.specs.Reasons.{reason_of}
 use Rattle.machine_core.specs.Running.{Running, held_of, state_of}
-use Rattle.machine_core.specs.HeldLaws.{open_run}
-use Rattle.machine_core.specs.HeldTree.{Holds}
-use Rattle.machine_core.specs.Reported.{reported, reported_at, shown}
-use Rattle.machine_core.specs.Turned.{IsSound, RunsOut, TurnsLead, WantsBytes, WantsMemory}
+use Rattle.outcome_core.specs.HeldLaws.{open_run}
+use Rattle.outcome_core.specs.HeldTree.{Holds}
+use Rattle.outcome_core.specs.Reported.{reported, reported_at, shown}
+use Rattle.machine_core.specs.Turned.{IsSound, RunsOut, WantsBytes, WantsMemory}
+use Rattle.outcome_core.specs.Machine.{TurnsLead}
 use Rattle.decode_core.specs.declared.decoder.Fed.{Fed}
 use Rattle.decode_core.specs.declared.decoder.Fed.TheVariants as fed
 use Rattle.decode_core.specs.declared.decoder.Progress.{Progress}

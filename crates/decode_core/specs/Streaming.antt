@@ -8,8 +8,8 @@ use Rattle.graph_core.specs.Widths.{widest}
 use Rattle.grammar_core.specs.Tree.{Tree, nodes, text_bytes}
 use Rattle.node_core.specs.Shown.{Seen}
 use Rattle.grammar_core.specs.declared.limits.Limits.{Limits}
-use Rattle.machine_core.specs.Bound.{value_bound}
-use Rattle.machine_core.specs.Outcome.{Job, done, more, IsOutcome}
+use Rattle.outcome_core.specs.Bound.{value_bound}
+use Rattle.outcome_core.specs.Outcome.{Job, done, more, IsOutcome}
 use Rattle.decode_core.specs.Decoding.{Decoding, FinishesDecoder, Led, first_of_all}
 use Rattle.decode_core.specs.declared.fault.OpenFault.{OpenFault}
 use Rattle.decode_core.specs.declared.fault.OpenFault.TheVariants as opening

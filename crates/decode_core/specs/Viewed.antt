@@ -1,7 +1,7 @@
 -- What contracts see of a decoder.
 use Rattle.std.specs.Prelude.{◌+◌}
 use Rattle.decode_core.specs.declared.decoder.Decoder.TheInside.{Inside}
-use Rattle.machine_core.specs.Outcome.{Job}
+use Rattle.outcome_core.specs.Outcome.{Job}
 use Rattle.decode_core.specs.Decoding.{Decoding, closing_turns}
 
 -- what is decoded: a value of this type, within these limits

@@ -1,10 +1,10 @@
 -- If memory ran out, the grammar rejects none of the bytes taken: more are needed and one is there,
 -- or they have a further node.
 use Rattle.std.specs.Prelude.{◌≡◌, ◌⊎◌, ℕ, suc, ◌≤◌, List, [], ◌∷◌, ◌++◌, length, take}
-use Rattle.value_core.specs.Built.{Entry}
+use Rattle.grammar_core.specs.Preorder.{Entry}
 use Rattle.decode_core.specs.Decoding.{RanOut}
-use Rattle.machine_core.specs.Outcome.{Job, more, IsOutcome}
-use Rattle.machine_core.specs.Reported.{Reported, after, reported_at}
+use Rattle.outcome_core.specs.Outcome.{Job, more, IsOutcome}
+use Rattle.outcome_core.specs.Reported.{Reported, after, reported_at}
 
 -- whatever follows these bytes, these nodes are read first
 abbrev pub AreRead : Job → List ℕ → List Entry → Type 0

@@ -1,76 +1,12 @@
 //! What holds of every outcome.
 
-ghost use Rattle.machine_core.specs.Begins.{FaultIsBegun};
-ghost use Rattle.machine_core.specs.HeldTree.{BegunIsBounded, BegunIsMissing, MissingIsBegun};
-ghost use Rattle.machine_core.specs.HeldLaws.{HeldIsBounded, MoreHolds, OneBegun};
 ghost use Rattle.decode_core.specs.Wanted.{WantedGoesOn};
-ghost use Rattle.machine_core.specs.Outcome.{EncodedIsDone, OneOutcome, OutcomeIsComputed};
-ghost use Rattle.machine_core.specs.Outcome.{OutcomeIsKept, TakenByFault, TakenIsShortest};
 
-/// What is encoded within the limits is decoded, and all of it is taken.
-pub fn encoded_is_done()
-    ensures { EncodedIsDone }
-{}
-
-/// An input has one outcome at most.
-pub fn one_outcome()
-    ensures { OneOutcome }
-{}
-
-/// Where bytes are missing, a begun tree is held.
-pub fn missing_is_begun()
-    ensures { MissingIsBegun }
-{}
-
-/// A begun tree has few levels, nodes, texts and runs of bytes for its bytes.
-pub fn begun_is_bounded()
-    ensures { BegunIsBounded }
-{}
-
-/// Every input has the outcome that is computed.
-pub fn outcome_is_computed()
-    ensures { OutcomeIsComputed }
-{}
-
-/// The bytes taken at a fault are the shortest front that is rejected with it.
-pub fn taken_is_shortest()
-    ensures { TakenIsShortest }
-{}
-
-/// If a begun tree is held, bytes are missing, and there is no other.
-pub fn begun_is_missing()
-    ensures { BegunIsMissing }
-{}
-
-/// An outcome that is decided is kept, whatever bytes follow.
-pub fn outcome_is_kept()
-    ensures { OutcomeIsKept }
-{}
-
-/// What is held of an input is bounded by the bytes taken.
-pub fn held_is_bounded()
-    ensures { HeldIsBounded }
-{}
-
-/// An input has one begun tree at most.
-pub fn one_begun()
-    ensures { OneBegun }
-{}
-
-/// How many bytes are taken at a fault follows from the fault alone.
-pub fn taken_by_fault()
-    ensures { TakenByFault }
-{}
-
-/// More bytes are needed exactly if a begun tree is held.
-pub fn more_holds()
-    ensures { MoreHolds }
-{}
-
-/// What is added before a fault is a begun tree.
-pub fn fault_is_begun()
-    ensures { FaultIsBegun }
-{}
+pub use outcome_core::laws::{
+    begun_is_bounded, begun_is_missing, encoded_is_done, fault_is_begun, held_is_bounded,
+    missing_is_begun, more_holds, one_begun, one_outcome, outcome_is_computed, outcome_is_kept,
+    taken_by_fault, taken_is_shortest,
+};
 
 /// If memory ran out, more bytes are needed and one is there, or a further node is read.
 pub fn wanted_goes_on()

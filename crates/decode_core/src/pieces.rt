@@ -7,9 +7,9 @@ ghost use Rattle.decode_core.specs.declared.pieces.PiecesFault.TheVariants.{Deco
 
 use crate::decoder::{Decoder, Progress};
 use crate::fault::{DecodeFault, OpenFault};
-use types_core::TypeId;
 use std::alloc::Allocator;
 use thiserror::Error;
+use types_core::TypeId;
 use value_core::{Limits, Value};
 use widths_core::Checked;
 

@@ -9,10 +9,10 @@ ghost use Rattle.decode_core.specs.declared.stream.StreamFault.TheVariants.{Deco
 
 use crate::decoder::{Decoder, Progress};
 use crate::fault::{DecodeFault, OpenFault};
-use types_core::TypeId;
 use scale_core::{ReadOnce, Source, SourceFault};
 use std::alloc::Allocator;
 use thiserror::Error;
+use types_core::TypeId;
 use value_core::{Limits, Value};
 use widths_core::Checked;
 

@@ -15,7 +15,8 @@ use Rattle.node_core.specs.declared.leaf.Leaf.{Leaf}
 use Rattle.node_core.specs.declared.leaf.Leaf.TheVariants as leaf
 use Rattle.form_core.specs.Needs.{AreOwn}
 use Rattle.form_core.specs.NodeForms.{form_of_plain}
-use Rattle.form_core.specs.PlainReads.{ReadsPlain, leaf_own}
+use Rattle.form_core.specs.PlainReads.{ReadsPlain}
+use Rattle.grammar_core.specs.Reading.{leaf_own}
 use Rattle.form_core.specs.declared.forms.PlainForm.TheVariants as plain
 
 -- an integer of 256 bits has 32 bytes of its own

@@ -1,24 +1,13 @@
 -- A node without parts, read from its bytes by its form.
-use Rattle.std.specs.Prelude.{◌≡◌, ℕ, List, Option, None, Result, Ok, Err}
+use Rattle.std.specs.Prelude.{◌≡◌, ℕ, List, None, Result, Ok, Err}
 use Rattle.scale_core.specs.Read.{Read, place}
 use Rattle.scale_core.specs.declared.fault.Fault.{Fault}
 use Rattle.scale_core.specs.declared.fault.Reason.{Reason}
-use Rattle.grammar_core.specs.Parts.{Part}
-use Rattle.grammar_core.specs.Preorder.{Head, head_of}
-use Rattle.grammar_core.specs.Reading.{Refusal, basic, leaf_at}
-use Rattle.grammar_core.specs.Tree.{Tree}
+use Rattle.grammar_core.specs.Reading.{basic, leaf_at}
 use Rattle.node_core.specs.Leaves.{leaf_head}
 use Rattle.node_core.specs.declared.leaf.Leaf.{Leaf}
 use Rattle.form_core.specs.NodeForms.{plain_layout}
 use Rattle.form_core.specs.declared.forms.PlainForm.{PlainForm}
-
--- a reading of a node: the node, and the parts that it opens
-abbrev pub Own : Type 0
-Own = Read Refusal (Head × Option Part)
-
-abbrev pub leaf_own : Read Refusal Tree → Own
-leaf_own (Ok x) = Ok ((head_of x.0, None), x.1)
-leaf_own (Err e) = Err e
 
 -- the answer is what is read at the start of the bytes
 abbrev pub ReadsFront : {X : Type 0} → List ℕ → Result X Fault → Read Reason X → Type 0

@@ -5,8 +5,8 @@ ghost use Rattle.form_core.specs.Needs.{HasBytes};
 ghost use Rattle.form_core.specs.NodeForms.{form_of_bytes};
 
 use grammar_core::Form;
-use types_core::{IntegerWidth, Primitive, PrimitiveKind, Signedness};
 use scale_core::Target;
+use types_core::{IntegerWidth, Primitive, PrimitiveKind, Signedness};
 
 /// The form of a node without parts that is neither a text nor a run of bytes (SCALE codec,
 /// "Types"): at most 32 bytes spell it.

@@ -10,11 +10,11 @@ ghost use Rattle.form_core.specs.PlainReads.{ReadsFront, ReadsPlain};
 
 use crate::forms::PlainForm;
 use node_core::Leaf;
-use types_core::IntegerWidth;
 use scale_core::{
     Fault, Target, read_bool, read_char, read_compact, read_i8, read_i16, read_i32, read_i64,
     read_i128, read_u8, read_u16, read_u32, read_u64, read_u128,
 };
+use types_core::IntegerWidth;
 
 /// Reads an unsigned integer of this width from the front of the bytes.
 #[tactic(auto, using(crate::proofs::ReadFronts::read_is))]

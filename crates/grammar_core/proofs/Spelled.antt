@@ -34,16 +34,19 @@ use Rattle.widths_core.specs.declared.run_kind.RunKind.TheVariants as kind
 use Rattle.grammar_core.specs.Runs.{IsRunLength, run_leaf}
 use Rattle.widths_core.proofs.Known.{empty_class, layout_empty}
 use Rattle.widths_core.proofs.FirstArm.{arm_is_first}
-use Rattle.grammar_core.specs.Tree.{Leaf, Tree, leaf, branch, fields, arm}
+use Rattle.grammar_core.specs.Tree.{Leaf, Branch, Tree, leaf, branch, fields, arm}
 use Rattle.grammar_core.specs.Tree.{list, Trees, none, and, how_many}
 use Rattle.grammar_core.specs.Ways.{SpelledBy, way_of}
 use Rattle.grammar_core.specs.Grammar.{Val, Vals, Each}
 use Rattle.grammar_core.proofs.Ways.{bool_is}
-use Rattle.grammar_core.specs.Parts.{each, times}
+use Rattle.grammar_core.specs.Parts.{Part, each, how_many_left, times}
+use Rattle.grammar_core.specs.Preorder as head
+use Rattle.grammar_core.specs.Tree as tree
+use Rattle.grammar_core.specs.Begun.{BranchOpens}
 use Rattle.grammar_core.specs.Cells.{cells, all_cells}
 use Rattle.grammar_core.proofs.Emptiness.{known_at}
 use Rattle.grammar_core.specs.Spelled.{leaf_spelling, kind_width, width_of, word, index_of}
-use Rattle.grammar_core.specs.Spelled.{index_byte, is_sequence, length_bytes, cell_bytes, spelled}
+use Rattle.grammar_core.specs.Spelled.{index_byte, is_sequence, length_bytes, cell_bytes, own_bytes, spelled}
 use Rattle.grammar_core.specs.Spelled.{EncodedIsValue}
 use Rattle.grammar_core.specs.Laws.{OneSpelling}
 
@@ -304,3 +307,14 @@ encoded_is_value = spells
 -- so two lists of bytes that spell the same value of a type are the same
 pub one_spelling_of : OneSpelling
 one_spelling_of r t v a b p q h k = sym (spells r t v a p h) ∙ spells r t v b q k
+
+-- a branch by itself spells its own bytes
+pub branch_own : (r : List TypeInfo) (t : ℕ) (kind : Branch) (c : List ℕ) (p : Part) →
+    BranchOpens (layout r t) kind c p →
+    own_bytes (shape r t) (head.branch kind (how_many_left p)) ≡ c
+branch_own r t tree.fields c p h = sym h.2
+branch_own r t (tree.arm q) c p h = arm_byte r t h.0 h.1 q h.2 h.3 h.4 ∙ sym h.5
+branch_own r t tree.list c p h = elim h.2 [
+  | inl a ↦ array_length r t h.0 h.1 (how_many_left p) a.0 ∙ sym a.1
+  | inr s ↦ sequence_length r t h.1 (how_many_left p) s.0 ∙ rw h.3 (sym s.1.1)
+]

@@ -144,3 +144,8 @@ head_code = code_by Stored
 
 abbrev pub tree_code : Coded Tree
 tree_code = code_by (List Head) (coded_list head_code) preorder tree_of tree_of-preorder
+
+-- a node with its type
+pub record Entry : Type 0 where
+  pub ty : ℕ
+  pub head : Head

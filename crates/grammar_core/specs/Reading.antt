@@ -14,6 +14,7 @@ use Rattle.widths_core.specs.Classes.{is_finite}
 use Rattle.widths_core.specs.Layouts.{Plain, Layout, layout}
 use Rattle.widths_core.specs.Layouts as layout
 use Rattle.grammar_core.specs.Parts.{Part, each, times}
+use Rattle.grammar_core.specs.Preorder.{Head, head_of}
 use Rattle.grammar_core.specs.Tree.{Leaf, Branch, Tree, leaf, branch, fields, arm, list, Trees}
 use Rattle.grammar_core.specs.Tree.{none, and}
 use Rattle.grammar_core.specs.Ways.{read_by, way_of}
@@ -100,3 +101,11 @@ value_at r zero t bytes = Err (too_deep, bytes)
 value_at r (suc room) t bytes =
     if is_finite r t then layout_at (value_at r room) (layout r t) bytes else Err
     (no_finite_value, bytes)
+
+-- a reading of a node: the node, and the parts that it opens
+abbrev pub Own : Type 0
+Own = Read Refusal (Head × Option Part)
+
+abbrev pub leaf_own : Read Refusal Tree → Own
+leaf_own (Ok x) = Ok ((head_of x.0, None), x.1)
+leaf_own (Err e) = Err e

@@ -3,8 +3,8 @@
 ghost use Rattle.std.specs.Prelude.{◌≡◌};
 ghost use Rattle.grammar_core.specs.Forms.{next_at, next_of_step};
 
-use types_core::{Primitive, TypeId};
 use scale_core::Target;
+use types_core::{Primitive, TypeId};
 use widths_core::{Checked, TypeStep};
 
 /// The form of a node, which says how many parts it has (SCALE codec, "Types").

@@ -3,8 +3,8 @@
 ghost use Rattle.std.specs.Prelude.{◌≡◌};
 ghost use Rattle.graph_core.specs.declared.fault.CheckFault.TheVariants.{OutOfMemory};
 
-use types_core::TypeId;
 use std::alloc::{AllocError, AllocFailed};
+use types_core::TypeId;
 
 /// The reason why a registry is rejected.
 #[derive(Clone, Copy, Debug, PartialEq, Eq)]

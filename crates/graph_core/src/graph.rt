@@ -22,8 +22,8 @@ use crate::fault::CheckFault;
 use crate::link_stop::LinkStop;
 use crate::looks::Looks;
 use crate::sizes::{Sizes, sizes_in};
-use types_core::{Registry, TypeDef};
 use std::alloc::{AllocError, Global};
+use types_core::{Registry, TypeDef};
 
 /// A reference in the list of the references to one type.
 #[derive(Clone, Copy)]

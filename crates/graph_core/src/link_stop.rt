@@ -5,8 +5,8 @@ ghost use Rattle.graph_core.specs.Stops.{fault_in};
 ghost use Rattle.graph_core.specs.declared.link_stop.LinkStop.TheVariants.{Memory};
 
 use crate::fault::CheckFault;
-use types_core::TypeId;
 use std::alloc::{AllocError, AllocFailed};
+use types_core::TypeId;
 
 /// The reason why the linking of a type stopped.
 #[derive(Clone, Copy)]

@@ -12,9 +12,9 @@ use crate::defined::{compact_json, composite_fields, defined_arm, integer_json};
 use crate::fields::fields_json;
 use crate::hexadecimal::bytes_json;
 use crate::integers::{signed_json, unsigned_json, wide_json};
-use types_core::Arm;
 use serde_json::{Map, Value};
 use std::alloc::{AllocError, Allocator, Global};
+use types_core::Arm;
 use value_core::{NodeRef, What};
 
 /// Returns a text of one character.

@@ -21,9 +21,9 @@ ghost use Rattle.json_core.specs.declared.integer_json.IntegerJson.TheVariants.{
 use crate::defined::{compact_json, composite_fields, defined_arm, integer_json};
 use crate::fields::name_of;
 use crate::integer_json::IntegerJson;
-use types_core::{Arm, Field, Fields, Keys};
 use std::alloc::{AllocError, Allocator, Global};
 use token_core::{Escapes, Output};
+use types_core::{Arm, Field, Fields, Keys};
 use value_core::{NodeRef, What};
 
 /// The most fields that are few: a step past each child costs less than memory for a list.

@@ -1,14 +1,4 @@
-pub mod Outcome
-pub mod Taken
-pub mod HeldTree
-pub mod Bound
-pub mod HeldLaws
-pub mod Met
-pub mod Reported
-pub mod Machine
-pub mod Begins
 pub mod Reasons
 pub mod NodeAdds
 pub mod Running
 pub mod Turned
-pub mod Decided

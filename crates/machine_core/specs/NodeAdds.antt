@@ -12,9 +12,9 @@ use Rattle.node_core.specs.Leaves.{leaf_head}
 use Rattle.node_core.specs.declared.leaf.Leaf.{Leaf}
 use Rattle.grammar_core.specs.declared.form.Form.{Form}
 use Rattle.grammar_core.specs.declared.form.Next.TheVariants as next
-use Rattle.machine_core.specs.Machine.{is_cut}
+use Rattle.outcome_core.specs.Machine.{is_cut}
 use Rattle.machine_core.specs.Reasons.{reason_of}
-use Rattle.machine_core.specs.Reported.{own_at}
+use Rattle.outcome_core.specs.Reported.{own_at}
 use Rattle.machine_core.specs.declared.reason.DecodeReason.{DecodeReason}
 use Rattle.machine_core.specs.declared.node.NodeFault.{NodeFault}
 use Rattle.machine_core.specs.declared.node.NodeFault.TheVariants as fault

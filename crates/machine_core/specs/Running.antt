@@ -7,7 +7,7 @@ use Rattle.value_core.specs.Built.{Built, Pieces, settled_in}
 use Rattle.value_core.specs.Walked.{next_of, start_of}
 use Rattle.grammar_core.specs.declared.form.Form.{Form}
 use Rattle.grammar_core.specs.declared.form.Next.TheVariants as next
-use Rattle.machine_core.specs.Machine.{State}
+use Rattle.outcome_core.specs.Machine.{State}
 use Rattle.form_core.specs.Needs.{need, AreOwn, HasBytes}
 
 -- the value being built, and the bytes of a node that the end of a piece cut

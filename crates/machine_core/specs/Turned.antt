@@ -1,5 +1,5 @@
 -- One piece of input, turn by turn.
-use Rattle.std.specs.Prelude.{◌≡◌, ℕ, suc, ◌*◌, ◌+◌, ◌-◌, ◌≤◌, ◌⊎◌, List, [], ◌++◌, length, take}
+use Rattle.std.specs.Prelude.{◌≡◌, ℕ, suc, ◌+◌, ◌-◌, ◌≤◌, ◌⊎◌, List, [], ◌++◌, length, take}
 use Rattle.std.specs.Prelude.{drop, false, true, None, Result, Ok, Err}
 use Rattle.types_core.specs.declared.type_info.TypeInfo.{TypeInfo}
 use Rattle.widths_core.specs.Layouts as layout
@@ -14,12 +14,12 @@ use Rattle.value_core.specs.Refusals.{is_complete}
 use Rattle.grammar_core.specs.Reading.{Refusal, truncated}
 use Rattle.form_core.specs.declared.forms.BytesForm.{BytesForm}
 use Rattle.form_core.specs.declared.forms.BytesForm.TheVariants as bytes
-use Rattle.machine_core.specs.Decided.{Decided}
-use Rattle.machine_core.specs.Machine.{State, remain, to_go, is_cut}
+use Rattle.outcome_core.specs.Decided.{Decided}
+use Rattle.outcome_core.specs.Machine.{remain, to_go, is_cut}
 use Rattle.machine_core.specs.NodeAdds.{IsSpelled}
 use Rattle.machine_core.specs.Reasons.{reason_of}
 use Rattle.machine_core.specs.Running.{Running, IsCarry, IsRunNext, state_of, held_of}
-use Rattle.machine_core.specs.Reported.{reported, after, own_at}
+use Rattle.outcome_core.specs.Reported.{reported, after, own_at}
 use Rattle.machine_core.specs.declared.node.NodeFault.{NodeFault}
 use Rattle.machine_core.specs.declared.node.NodeFault.TheVariants as fault
 use Rattle.machine_core.specs.declared.turned.Stopped.{Stopped}
@@ -34,20 +34,6 @@ Turned = Result ℕ Stopped
 
 abbrev pub types_in : Running → List TypeInfo
 types_in s = s.built.walk.types
-
--- the bytes c lead from one state to the next, whatever follows them; the new nodes bound the new
--- frames
-pub record TurnLeads (r : List TypeInfo) (s s' : State) (c : List ℕ) : Type 0 where
-  pub reports : (more : List ℕ) →
-      after s.nodes (remain r s (c ++ more)) ≡ after s'.nodes (remain r s' more)
-  pub level : s'.room + length s'.pending ≡ s.room + length s.pending
-  pub paid : length s'.pending + 2 * length s.nodes + 1 ≤ length s.pending + 2 * length s'.nodes
-
--- the bytes c lead from one state to another in any number of turns
-pub record TurnsLead (r : List TypeInfo) (s s' : State) (c : List ℕ) : Type 0 where
-  pub reports : (more : List ℕ) →
-      after s.nodes (remain r s (c ++ more)) ≡ after s'.nodes (remain r s' more)
-  pub level : s'.room + length s'.pending ≡ s.room + length s.pending
 
 -- the same value is decoded
 pub record IsSame (old new : Running) : Type 0 where

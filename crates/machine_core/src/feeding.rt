@@ -19,9 +19,9 @@ use crate::turned::{Stopped, Tried};
 use count_core::Count;
 use form_core::PlainForm::Unsigned;
 use form_core::{BytesForm, LeafForm, bytes_form, need};
+use std::alloc::{AllocError, Allocator};
 use types_core::IntegerWidth::{Bits8, Bits16, Bits32, Bits64, Bits128};
 use types_core::Primitive;
-use std::alloc::{AllocError, Allocator};
 use value_core::{Form, Leaf, Next, RunKind};
 
 impl<'r, A: Allocator> Partial<'r, A> {

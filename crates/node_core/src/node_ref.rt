@@ -8,8 +8,8 @@ use crate::children::Children;
 use crate::node::{Content, Node};
 use crate::pool::long_at;
 use crate::what::What;
-use types_core::TypeId;
 use std::marker::Model;
+use types_core::TypeId;
 use widths_core::Checked;
 
 /// A borrowed node of a value, with its subtree.

@@ -14,9 +14,9 @@ ghost use Rattle.node_core.specs.Failed.{Meets};
 use crate::node::{Content, Node};
 use crate::pool::long_at;
 use crate::value::Value;
-use types_core::{Primitive, PrimitiveKind, TypeDef, TypeId};
 use scale_core::{Sink, SinkFault, WriteOnce, put_compact};
 use std::alloc::Allocator;
+use types_core::{Primitive, PrimitiveKind, TypeDef, TypeId};
 use widths_core::Checked;
 
 /// A failed write, and how many bytes were written before it.

@@ -20,7 +20,8 @@ use Rattle.grammar_core.specs.Tree as tree
 use Rattle.grammar_core.specs.declared.form.Form.{Form}
 use Rattle.grammar_core.specs.declared.form.Form.TheVariants as form
 use Rattle.node_core.specs.Shown.{Seen}
-use Rattle.value_core.specs.Built.{Built, Entry, arm_in, finished, next_layout, with_found}
+use Rattle.value_core.specs.Built.{Built, arm_in, finished, next_layout, with_found}
+use Rattle.grammar_core.specs.Preorder.{Entry}
 use Rattle.value_core.specs.Built.{with_index}
 use Rattle.value_core.specs.Opened.{next_shape}
 use Rattle.value_core.specs.Refusals.{Adds, Finishes, Opens, in_range, indexed_fault, is_complete}

@@ -19,9 +19,9 @@ use crate::record::{
     ARM, BOOL, BYTES, CHAR, COMPACT, COUNT, EMPTY, FIELDS, LIST, Record, SIGNED, TEXT, UNSIGNED,
     WIDE,
 };
-use types_core::TypeId;
 use simdutf8::compat::from_utf8;
 use std::alloc::Allocator;
+use types_core::TypeId;
 use value_core::{BuildFault, Builder, Value};
 use widths_core::Checked;
 

@@ -9,7 +9,7 @@ use Rattle.types_core.specs.declared.type_info.TypeInfo.{TypeInfo}
 use Rattle.grammar_core.specs.Tree.{Tree}
 use Rattle.node_core.specs.Shown.{Seen}
 use Rattle.decode_core.specs.Decoding.{FinishesDecoder, IsEnded}
-use Rattle.machine_core.specs.Outcome.{Job, Outcome, done, refused, more, too_long, IsOutcome}
+use Rattle.outcome_core.specs.Outcome.{Job, Outcome, done, refused, more, too_long, IsOutcome}
 use Rattle.decode_core.specs.Streaming.{Forbids, IsOfJob, Joins, Trails}
 use Rattle.decode_core.specs.declared.fault.DecodeFault.{DecodeFault}
 use Rattle.machine_core.specs.declared.reason.DecodeReason.{DecodeReason}
@@ -18,7 +18,7 @@ use Rattle.decode_core.specs.declared.fault.OpenFault.{OpenFault}
 use Rattle.decode_core.specs.declared.fault.OpenFault.TheVariants as opening
 use Rattle.decode_core.specs.declared.pieces.PiecesFault.{PiecesFault}
 use Rattle.decode_core.specs.declared.pieces.PiecesFault.TheVariants as pieces
-use Rattle.machine_core.proofs.lists.Computed.{outcome_is_computed}
+use Rattle.outcome_core.proofs.Computed.{outcome_is_computed}
 use Rattle.scale_calls.specs.Refused.{opening_refusal, pieces_refusal, value_refusal_by}
 use Rattle.scale_calls.specs.Values.{RefusesValue, value_in, whole}
 

@@ -4,7 +4,7 @@ use Rattle.std.specs.Prelude.{option_map, Result, Ok, Err}
 use Rattle.grammar_core.specs.Tree.{Tree}
 use Rattle.node_core.specs.Shown.{Seen}
 use Rattle.json_core.specs.Json.{json_text}
-use Rattle.machine_core.specs.Outcome.{Job, Outcome, done, refused, more, too_long, outcome_of}
+use Rattle.outcome_core.specs.Outcome.{Job, Outcome, done, refused, more, too_long, outcome_of}
 use Rattle.decode_core.specs.Decoding.{FinishesDecoder}
 use Rattle.decode_core.specs.Streaming.{Trails}
 use Rattle.decode_core.specs.declared.fault.OpenFault.{OpenFault}

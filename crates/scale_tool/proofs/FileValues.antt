@@ -6,7 +6,7 @@ use Rattle.std.specs.Prelude.{IfSome, option_and_then, ⊤}
 use Rattle.types_core.specs.declared.type_info.TypeInfo.{TypeInfo}
 use Rattle.grammar_core.specs.declared.limits.Limits.{Limits}
 use Rattle.node_core.specs.Shown.{Seen}
-use Rattle.machine_core.specs.Outcome.{Job}
+use Rattle.outcome_core.specs.Outcome.{Job}
 use Rattle.decode_core.specs.Decoding.{opening_fault}
 use Rattle.decode_core.specs.Streaming.{StopsOpen, Streams, job_of}
 use Rattle.decode_core.specs.declared.fault.OpenFault.{OpenFault}

@@ -3,7 +3,7 @@ use Rattle.std.specs.Prelude.{◌≡◌, ℕ, List, Bool, true, false, Option, S
 use Rattle.std.specs.Prelude.{Result, Ok, Err, IfSome}
 use Rattle.types_core.specs.declared.type_info.TypeInfo.{TypeInfo}
 use Rattle.node_core.specs.Shown.{Seen}
-use Rattle.machine_core.specs.Outcome as decoder
+use Rattle.outcome_core.specs.Outcome as decoder
 use Rattle.decode_core.specs.Decoding.{FinishesDecoder}
 use Rattle.decode_core.specs.Streaming.{StopsOpen, Trails}
 use Rattle.scale_calls.specs.Values.{value_in}

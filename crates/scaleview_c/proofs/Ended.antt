@@ -1,7 +1,7 @@
 -- What a refused end says, where an allocation failure is no fault of the bytes.
 use Rattle.std.proofs.Common.{ℕ, List, Err}
 use Rattle.decode_core.specs.Decoding.{FinishesDecoder}
-use Rattle.machine_core.specs.Outcome.{Job}
+use Rattle.outcome_core.specs.Outcome.{Job}
 use Rattle.decode_core.specs.declared.fault.DecodeFault.{DecodeFault}
 use Rattle.machine_core.specs.declared.reason.DecodeReason.{DecodeReason}
 use Rattle.machine_core.specs.declared.reason.DecodeReason.TheVariants as reason

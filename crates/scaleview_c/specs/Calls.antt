@@ -5,7 +5,7 @@ use Rattle.grammar_core.specs.declared.limits.Limits.{Limits}
 use Rattle.grammar_core.specs.Tree.{nodes, text_bytes as tree_text_bytes}
 use Rattle.json_core.specs.Json.{json_text}
 use Rattle.json_core.specs.Printed.{IsInFront}
-use Rattle.machine_core.specs.Outcome.{Job}
+use Rattle.outcome_core.specs.Outcome.{Job}
 use Rattle.decode_core.specs.Decoding.{AnswersPiece, FinishesDecoder, Led, first_of_all}
 use Rattle.decode_core.specs.Decoding.{node_count, opening_fault, text_bytes}
 use Rattle.decode_core.specs.Streaming.{job_of}

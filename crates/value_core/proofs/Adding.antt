@@ -19,7 +19,8 @@ use Rattle.node_core.specs.Shown.{head_shown, cell_shown, cells_shown, size_show
 use Rattle.node_core.specs.Shown.{kept_bytes, all_kept, IsInPool, AreInPool}
 use Rattle.value_core.specs.Spine.{OpenNode, open_part, open_cell, open_cells, IsOpen, Spine}
 use Rattle.value_core.specs.Walked.{OpenPart, Walked, first_in, advanced, opened, next_of}
-use Rattle.value_core.specs.Built.{Entry, entries_shown, head_text_bytes, entries_text_bytes}
+use Rattle.value_core.specs.Built.{entries_shown, head_text_bytes, entries_text_bytes}
+use Rattle.grammar_core.specs.Preorder.{Entry}
 use Rattle.value_core.specs.Built.{IsLeaf, IsNextLeaf, IsNextOpen}
 use Rattle.value_core.specs.Building.{IsBuilding, IsOpenAt, IsOpenRun, pieces_shown}
 use Rattle.value_core.specs.Refusals.{missing_at}

@@ -20,7 +20,8 @@ use Rattle.node_core.specs.declared.node.Content.{Content}
 use Rattle.node_core.specs.declared.node.Node.{Node}
 use Rattle.value_core.specs.Begun.{IsBegun}
 use Rattle.value_core.specs.Building.{IsBuilding, IsPaid}
-use Rattle.value_core.specs.Built.{Built, Entry, Pieces, IsNextLeaf, IsNextOpen, IsSettled}
+use Rattle.value_core.specs.Built.{Built, Pieces, IsNextLeaf, IsNextOpen, IsSettled}
+use Rattle.grammar_core.specs.Preorder.{Entry}
 use Rattle.value_core.specs.Built.{closings, entries_shown, settled_in, settled_walk, type_or_0}
 use Rattle.value_core.specs.Built.{next_layout, with_fields, with_leaf, with_open}
 use Rattle.value_core.specs.Opened.{OpensFields}

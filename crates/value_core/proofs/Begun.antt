@@ -28,7 +28,8 @@ use Rattle.node_core.specs.Shown.{cell_shown, cells_shown}
 use Rattle.value_core.specs.Spine.{OpenNode, open_cells, open_part, Spine}
 use Rattle.grammar_core.specs.Cells.{part_of}
 use Rattle.value_core.specs.Walked.{OpenPart, Walked}
-use Rattle.value_core.specs.Built.{Entry, Pieces, IsSettled, entries_shown}
+use Rattle.value_core.specs.Built.{Pieces, IsSettled, entries_shown}
+use Rattle.grammar_core.specs.Preorder.{Entry}
 use Rattle.value_core.specs.Built.{settled_in}
 use Rattle.value_core.specs.Building.{IsPaid, IsBuilding}
 use Rattle.value_core.specs.Refusals.{is_whole_in}

@@ -13,7 +13,8 @@ use Rattle.node_core.specs.Shown.{seen, cells_shown, tree_shown, type_shown, hea
 use Rattle.node_core.specs.Shown.{IsWhole}
 use Rattle.value_core.specs.Spine.{OpenNode, Spine}
 use Rattle.value_core.specs.Walked.{OpenPart, Walked}
-use Rattle.value_core.specs.Built.{Entry, Pieces, entries_shown, head_text_bytes}
+use Rattle.value_core.specs.Built.{Pieces, entries_shown, head_text_bytes}
+use Rattle.grammar_core.specs.Preorder.{Entry}
 use Rattle.value_core.specs.Built.{entries_text_bytes, finished}
 use Rattle.value_core.specs.Building.{IsBuilding}
 use Rattle.value_core.specs.Refusals.{is_whole_in}

@@ -1,6 +1,5 @@
 -- The nodes of a value that is being built spell its own bytes.
 use Rattle.grammar_core.specs.Preorder as head
-use Rattle.grammar_core.specs.Tree as tree
 use Rattle.std.proofs.Common.{◌≡◌, ℕ, suc, flat_map, List, [], ◌∷◌, ◌++◌, refl, sym, ap}
 use Rattle.std.proofs.Common.{subst, ◌∙◌, inl, inr}
 use Rattle.std.proofs.lemmas.Grind.{flat_map-append}
@@ -10,12 +9,12 @@ use Rattle.types_core.specs.declared.type_info.TypeInfo.{TypeInfo}
 use Rattle.graph_core.specs.Types.{shape}
 use Rattle.widths_core.specs.Layouts.{layout}
 use Rattle.grammar_core.specs.Tree.{Branch, Trees, none, and}
-use Rattle.grammar_core.specs.Parts.{Part, left_after, how_many_left}
+use Rattle.grammar_core.specs.Parts.{Part, left_after}
 use Rattle.grammar_core.specs.Cells.{Cell, cells, all_cells, child_type, part_of}
-use Rattle.grammar_core.specs.Begun.{BranchOpens, FirstValues, IsOpenAs}
+use Rattle.grammar_core.specs.Begun.{FirstValues, IsOpenAs}
 use Rattle.grammar_core.specs.Spelled.{cell_bytes, own_bytes}
 use Rattle.grammar_core.proofs.OpenNodes.{child_is}
-use Rattle.grammar_core.proofs.Spelled.{encoded_is_value, arm_byte, array_length, sequence_length}
+use Rattle.grammar_core.proofs.Spelled.{encoded_is_value}
 use Rattle.value_core.specs.Spine.{OpenNode, open_cells, Spine}
 use Rattle.value_core.specs.Walked.{OpenPart}
 use Rattle.value_core.proofs.Spines.{part_is}
@@ -32,17 +31,6 @@ first_bytes r p (and v vs) b left are h =
       encoded_is_value r h.0 v h.1 (front_bytes h.1 h.2 both) h.5,
       first_bytes r (left_after p) vs h.2 left (rest_bytes h.1 h.2 both) h.6,
     ) (sym h.4)
-
--- a branch by itself spells its own bytes
-pub branch_own : (r : List TypeInfo) (t : ℕ) (kind : Branch) (c : List ℕ) (p : Part) →
-    BranchOpens (layout r t) kind c p →
-    own_bytes (shape r t) (head.branch kind (how_many_left p)) ≡ c
-branch_own r t tree.fields c p h = sym h.2
-branch_own r t (tree.arm q) c p h = arm_byte r t h.0 h.1 q h.2 h.3 h.4 ∙ sym h.5
-branch_own r t tree.list c p h = elim h.2 [
-  | inl a ↦ array_length r t h.0 h.1 (how_many_left p) a.0 ∙ sym a.1
-  | inr s ↦ sequence_length r t h.1 (how_many_left p) s.0 ∙ rw h.3 (sym s.1.1)
-]
 
 -- an open node and those of its children spell its bytes so far
 open_bytes : (r : List TypeInfo) (kind : Branch) (t n : ℕ) (vs : Trees) (b : List ℕ) (p : Part) →

@@ -28,11 +28,6 @@ use Rattle.value_core.specs.Walked.{OpenPart, Walked, next_of, next_type, advanc
 use Rattle.value_core.specs.Opened.{next_shape}
 use Rattle.node_core.specs.declared.node.Node.{Node}
 
--- a node with its type
-pub record Entry : Type 0 where
-  pub ty : ℕ
-  pub head : Head
-
 -- a text or a run of bytes that comes in pieces: its kind, its length, and its bytes so far
 pub record Pieces : Type 0 where
   pub kind : RunKind

@@ -15,8 +15,8 @@ use crate::build_fault::BuildFault;
 use crate::builder::Builder;
 use grammar_core::Form;
 use node_core::{Leaf, index_of};
-use types_core::{IntegerWidth, Primitive, PrimitiveKind};
 use std::alloc::Allocator;
+use types_core::{IntegerWidth, Primitive, PrimitiveKind};
 
 /// Returns the greatest number of an unsigned integer of this width.
 fn most_unsigned(width: IntegerWidth) -> u128

@@ -18,8 +18,8 @@ use crate::walk::Walk;
 use count_core::Count;
 use growth_core::GrowVec;
 use node_core::{Content, Leaf, Node, Remaining};
-use types_core::TypeId;
 use std::alloc::{AllocError, Allocator};
+use types_core::TypeId;
 
 /// Makes room for one more node of a walk. If there is none, it also reserves for further nodes and
 /// for their bytes.

@@ -12,9 +12,9 @@ use crate::raw_builder::RawBuilder;
 use crate::walk::Walk;
 use grammar_core::{Form, MAX_DEPTH, Next, RunKind};
 use node_core::Value;
-use types_core::TypeId;
 use std::alloc::Allocator;
 use std::marker::Model;
+use types_core::TypeId;
 use widths_core::Checked;
 
 /// A builder whose calls judge: a call that does not fit what is next returns a [`BuildFault`] and

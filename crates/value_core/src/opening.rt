@@ -10,8 +10,8 @@ ghost use Rattle.value_core.specs.Wrapped.{Wraps, WrapsArray};
 use crate::raw_builder::RawBuilder;
 use grammar_core::{Form, Next};
 use node_core::{Content, Leaf};
-use types_core::TypeId;
 use std::alloc::{AllocError, Allocator};
+use types_core::TypeId;
 
 impl<'r, A: Allocator> RawBuilder<'r, A> {
     /// Adds a composite or a tuple, which must be next.

@@ -16,10 +16,10 @@ use count_core::Count;
 use grammar_core::{MAX_DEPTH, Next, RunKind};
 use growth_core::GrowVec;
 use node_core::{Node, OpenRun, Value, put_piece};
-use types_core::TypeId;
 use simdutf8::compat::from_utf8;
 use std::alloc::{AllocError, Allocator};
 use std::marker::Model;
+use types_core::TypeId;
 use widths_core::Checked;
 
 /// A builder whose calls do not judge: the caller knows what is next.

@@ -13,8 +13,8 @@ use crate::build_fault::BuildFault;
 use crate::builder::Builder;
 use grammar_core::{Form, RunKind};
 use node_core::Leaf;
-use types_core::Primitive;
 use std::alloc::Allocator;
+use types_core::Primitive;
 
 impl<'r, A: Allocator> Builder<'r, A> {
     /// Adds a text.

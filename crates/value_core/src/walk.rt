@@ -15,9 +15,9 @@ ghost use Rattle.value_core.specs.Wrapped.{WrapsArray};
 use grammar_core::{Form, MAX_DEPTH, Next, StopReason, next_of_step};
 use growth_core::GrowVec;
 use node_core::{Frame, Node, Remaining};
-use types_core::TypeId;
 use std::alloc::{AllocError, Allocator};
 use std::marker::Model;
+use types_core::TypeId;
 use widths_core::{Checked, TypeStep};
 
 /// Returns the step of a type in the registry's table. A type that the registry lacks has no value.

@@ -17,8 +17,8 @@ use crate::rows::Rows;
 use crate::settling::Settling;
 use crate::type_step::TypeStep;
 use graph_core::{CheckFault, Examined, Graph, Reference, Sizes, first_unknown, sizes_of};
-use types_core::Registry;
 use std::alloc::{AllocError, Global};
+use types_core::Registry;
 
 /// The types of a registry after their second look.
 #[derive(Drop)]

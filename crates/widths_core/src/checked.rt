@@ -18,10 +18,10 @@ use crate::class::Class;
 use crate::rows::Rows;
 use crate::type_step::{ArmStep, Parts, TypeStep, step_of};
 use graph_core::{CheckFault, Examined};
-use types_core::{Arm, Registry, TypeDef, TypeId, TypeInfo};
 use scale_core::Target;
 use std::alloc::Global;
 use std::marker::Model;
+use types_core::{Arm, Registry, TypeDef, TypeId, TypeInfo};
 
 /// A registry in which every reference is known, with a small table of what was found of its types.
 ///

@@ -22,9 +22,9 @@ use crate::counter::{Counter, Found, Kind};
 use crate::rows::Rows;
 use crate::type_step::{ArmStep, Parts, TypeStep};
 use graph_core::{CheckFault, Definition, Graph, LinkStop};
-use types_core::{IntegerWidth, Primitive, PrimitiveKind};
 use scale_core::Target;
 use std::alloc::Global;
+use types_core::{IntegerWidth, Primitive, PrimitiveKind};
 
 /// A type that takes bytes and is no target of a compact.
 const SIZED: Found = Found {

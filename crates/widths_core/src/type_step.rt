@@ -5,8 +5,8 @@ ghost use Rattle.widths_core.specs.Completing.{is_byte_step, of_bytes, without_v
 ghost use Rattle.widths_core.specs.Steps.{class_of_step, compact_of_step, row_of_step};
 
 use crate::class::Class;
-use types_core::Primitive;
 use scale_core::Target;
+use types_core::Primitive;
 
 /// The position of parts in the list of all references of a registry.
 #[derive(Clone, Copy)]

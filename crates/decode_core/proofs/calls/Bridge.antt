@@ -9,22 +9,23 @@ use Rattle.scale_core.specs.Number.{AreBytes}
 use Rattle.scale_core.proofs.Numbers.{both_bytes}
 use Rattle.decode_core.specs.Decoding.{HoldsOf, IsDone, IsGoing, IsOf, IsWaiting, RanOut}
 use Rattle.decode_core.specs.Decoding.{built_tree}
-use Rattle.machine_core.specs.Decided.{Decided}
-use Rattle.machine_core.specs.Machine.{remain, start}
-use Rattle.machine_core.specs.Outcome.{Job, done, refused, more, too_long, IsOutcome}
+use Rattle.outcome_core.specs.Decided.{Decided}
+use Rattle.outcome_core.specs.Machine.{remain, start}
+use Rattle.outcome_core.specs.Outcome.{Job, done, refused, more, too_long, IsOutcome}
 use Rattle.machine_core.specs.Reasons.{reason_of}
 use Rattle.machine_core.specs.Running.{Running, held_of, state_of}
-use Rattle.machine_core.specs.Reported.{reported, reported_at, after}
-use Rattle.value_core.specs.Built.{Entry}
-use Rattle.machine_core.specs.Turned.{IsSame, IsSound, Moves, TurnsLead, EndsTurns, WantsMemory}
+use Rattle.outcome_core.specs.Reported.{reported, reported_at, after}
+use Rattle.grammar_core.specs.Preorder.{Entry}
+use Rattle.machine_core.specs.Turned.{IsSame, IsSound, Moves, EndsTurns, WantsMemory}
+use Rattle.outcome_core.specs.Machine.{TurnsLead}
 use Rattle.machine_core.specs.declared.reason.DecodeReason.{DecodeReason}
 use Rattle.machine_core.specs.declared.turned.Stopped.TheVariants as stop
-use Rattle.machine_core.proofs.lists.NotCut.{not_cut}
+use Rattle.outcome_core.proofs.NotCut.{not_cut}
 use Rattle.decode_core.proofs.calls.Holding.{holds_of}
 use Rattle.machine_core.proofs.steps.Refusing.{waits_reported}
-use Rattle.machine_core.proofs.lists.Fed.{Here, cut_here, done_here, led_on, refused_here}
-use Rattle.machine_core.proofs.lists.Fed.{whole_reported}
-use Rattle.machine_core.proofs.lists.Kept.{take_split}
+use Rattle.outcome_core.proofs.Fed.{Here, cut_here, done_here, led_on, refused_here}
+use Rattle.outcome_core.proofs.Fed.{whole_reported}
+use Rattle.outcome_core.proofs.Kept.{take_split}
 
 -- the bytes that are offered within the limit
 abbrev pub offered : Job → ℕ → List ℕ → List ℕ

@@ -6,28 +6,29 @@ use Rattle.types_core.specs.declared.type_info.TypeInfo.{TypeInfo}
 use Rattle.graph_core.specs.Widths.{widest}
 use Rattle.grammar_core.specs.Reading.{value_at}
 use Rattle.grammar_core.proofs.Proved.{read_is_value}
-use Rattle.value_core.specs.Built.{Entry}
-use Rattle.machine_core.specs.Bound.{node_bound}
+use Rattle.grammar_core.specs.Preorder.{Entry}
+use Rattle.outcome_core.specs.Bound.{node_bound}
 use Rattle.decode_core.specs.Decoding.{IsDone, RunLed}
-use Rattle.machine_core.specs.Machine.{State, remain, start}
-use Rattle.machine_core.specs.Outcome.{Job, done, IsOutcome}
+use Rattle.outcome_core.specs.Machine.{State, remain, start}
+use Rattle.outcome_core.specs.Outcome.{Job, done, IsOutcome}
 use Rattle.machine_core.specs.Running.{Running, held_of, state_of}
-use Rattle.machine_core.specs.Reported.{Reported, reported, added, after, reported_at}
-use Rattle.machine_core.specs.Turned.{FeedReports, FewTurns, IsSound, Moves, TurnsLead, StopCounts}
+use Rattle.outcome_core.specs.Reported.{Reported, reported, added, after, reported_at}
+use Rattle.machine_core.specs.Turned.{FeedReports, FewTurns, IsSound, Moves, StopCounts}
+use Rattle.outcome_core.specs.Machine.{TurnsLead}
 use Rattle.machine_core.specs.Turned.{StopsShort, types_in}
 use Rattle.machine_core.specs.declared.reason.DecodeReason.{DecodeReason}
 use Rattle.machine_core.specs.declared.turned.Stopped.{Stopped}
 use Rattle.machine_core.specs.declared.turned.Stopped.TheVariants as stop
 use Rattle.decode_core.proofs.calls.Bridge.{moved_led}
-use Rattle.machine_core.proofs.lists.FaultBegins.{fault_is_begun}
-use Rattle.machine_core.proofs.lists.Fed.{value_of, whole_reported}
+use Rattle.outcome_core.proofs.FaultBegins.{fault_is_begun}
+use Rattle.outcome_core.proofs.Fed.{value_of, whole_reported}
 use Rattle.decode_core.proofs.calls.Feeding.{done_reported, led_fits}
-use Rattle.machine_core.proofs.lists.OutcomeBound.{held_is_bounded}
-use Rattle.machine_core.proofs.lists.FaultBound.{begins_small, more_bytes}
-use Rattle.machine_core.proofs.lists.MachineTurns.{count_after}
+use Rattle.outcome_core.proofs.OutcomeBound.{held_is_bounded}
+use Rattle.decode_core.proofs.calls.FaultBound.{begins_small, more_bytes}
+use Rattle.outcome_core.proofs.MachineTurns.{count_after}
 use Rattle.value_core.proofs.Begun.{preorder_length}
 use Rattle.decode_core.proofs.calls.Small.{done_small, value_le_nodes}
-use Rattle.machine_core.proofs.lists.Reports.{reported_agrees}
+use Rattle.outcome_core.proofs.Reports.{reported_agrees}
 
 -- ---- a state that bytes lead to has few nodes for them
 

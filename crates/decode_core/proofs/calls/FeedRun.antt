@@ -8,7 +8,7 @@ use Rattle.scale_core.specs.declared.fault.Reason.TheVariants as scale
 use Rattle.grammar_core.specs.Reading.{Refusal, basic}
 use Rattle.decode_core.specs.Decoding.{HoldsOf, IsDone, IsEnded, IsGoing, RunLed}
 use Rattle.machine_core.specs.Reasons.{reason_of}
-use Rattle.machine_core.specs.Outcome.{Job, more, IsOutcome}
+use Rattle.outcome_core.specs.Outcome.{Job, more, IsOutcome}
 use Rattle.value_core.specs.Refusals.{is_complete}
 use Rattle.machine_core.specs.Running.{Running, held_of}
 use Rattle.machine_core.specs.Turned.{FeedReports, RunsOut, EndsTurns}

@@ -5,22 +5,22 @@ use Rattle.std.proofs.Common.{length-append}
 use Rattle.std.proofs.lemmas.List.{append-nil, length-take}
 use Rattle.types_core.specs.declared.type_info.TypeInfo.{TypeInfo}
 use Rattle.grammar_core.specs.Reading.{Refusal, truncated}
-use Rattle.value_core.specs.Built.{Entry}
+use Rattle.grammar_core.specs.Preorder.{Entry}
 use Rattle.scale_core.specs.Number.{AreBytes}
 use Rattle.decode_core.specs.Decoding.{HoldsOf, IsDone, IsEnded, IsGoing, RanOut, RunLed}
 use Rattle.decode_core.specs.Decoding.{built_tree}
-use Rattle.machine_core.specs.Machine.{remain}
-use Rattle.machine_core.specs.Outcome.{Job, done, refused, more, too_long, IsOutcome}
+use Rattle.outcome_core.specs.Machine.{remain}
+use Rattle.outcome_core.specs.Outcome.{Job, done, refused, more, too_long, IsOutcome}
 use Rattle.machine_core.specs.Reasons.{reason_of}
 use Rattle.machine_core.specs.Running.{Running, held_of, state_of}
-use Rattle.machine_core.specs.Reported.{reported, added, after, Ending, ending}
+use Rattle.outcome_core.specs.Reported.{reported, added, after, Ending, ending}
 use Rattle.machine_core.specs.Turned.{FeedReports, IsSound, Moves, EndsTurns, WantsMemory, types_in}
 use Rattle.decode_core.specs.declared.fault.DecodeFault.{DecodeFault}
 use Rattle.machine_core.specs.declared.reason.DecodeReason.{DecodeReason}
 use Rattle.machine_core.specs.declared.turned.Stopped.TheVariants as stop
 use Rattle.decode_core.proofs.calls.Bridge.{offered, of_moved, fed_done, fed_more, fed_long}
 use Rattle.decode_core.proofs.calls.Bridge.{fed_refused}
-use Rattle.machine_core.proofs.lists.Kept.{outcome_is_kept, take_split}
+use Rattle.outcome_core.proofs.Kept.{outcome_is_kept, take_split}
 use Rattle.machine_core.proofs.steps.Refusing.{waits_reported}
 
 -- ---- a value that is whole takes no more

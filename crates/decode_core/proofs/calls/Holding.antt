@@ -22,16 +22,16 @@ use Rattle.value_core.specs.Built.{Built, Pieces, next_layout, pieces_bytes, typ
 use Rattle.value_core.specs.Walked.{next_type}
 use Rattle.value_core.proofs.Forms.{HasForm, Wanted, wanted}
 use Rattle.decode_core.specs.Decoding.{HoldsOf, IsOf, IsWaiting}
-use Rattle.machine_core.specs.HeldLaws.{open_run, past_length}
-use Rattle.machine_core.specs.HeldTree.{IsShort}
+use Rattle.outcome_core.specs.HeldLaws.{open_run, past_length}
+use Rattle.outcome_core.specs.HeldTree.{IsShort}
 use Rattle.form_core.specs.Needs.{HasBytes, kind_need, need}
-use Rattle.machine_core.specs.Outcome.{Job}
+use Rattle.outcome_core.specs.Outcome.{Job}
 use Rattle.machine_core.specs.Running.{Running, IsCarry, IsRunNext, held_of, run_held}
-use Rattle.machine_core.specs.Reported.{own_at}
+use Rattle.outcome_core.specs.Reported.{own_at}
 use Rattle.machine_core.proofs.steps.NodeAdding.{next_has, next_run}
 use Rattle.machine_core.proofs.steps.Refusing.{IsShortOf, run_length_short}
 use Rattle.machine_core.proofs.steps.OpenRuns.{length_again, own_of}
-use Rattle.machine_core.proofs.lists.ReportedSpells.{HoldsBytes, entry_bytes, reported_spells}
+use Rattle.outcome_core.proofs.ReportedSpells.{HoldsBytes, entry_bytes, reported_spells}
 
 -- ---- the tree and its bytes
 

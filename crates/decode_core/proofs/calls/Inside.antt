@@ -4,7 +4,7 @@ use Rattle.decode_core.specs.declared.decoder.Decoder.TheInside.{Inside}
 use Rattle.decode_core.specs.declared.fault.DecodeFault.{DecodeFault}
 use Rattle.decode_core.specs.Decoding.{Decoding, IsDecoding, IsSmall, Led, LoopCounted, RunCounted}
 use Rattle.decode_core.specs.Decoding.{RunLed, closing_turns}
-use Rattle.machine_core.specs.Outcome.{Job}
+use Rattle.outcome_core.specs.Outcome.{Job}
 use Rattle.machine_core.specs.Running.{Running}
 use Rattle.decode_core.specs.Viewed.{decoding_of, job_within}
 use Rattle.decode_core.proofs.calls.Small.{led_small}

@@ -8,10 +8,11 @@ use Rattle.node_core.specs.Shown.{Seen}
 use Rattle.decode_core.specs.Decoding.{AnswersPiece, AsksMemory, Decoding, FinishesDecoder, IsEnded}
 use Rattle.decode_core.specs.Decoding.{IsGoing}
 use Rattle.decode_core.specs.Decoding.{IsOf, Led, RunLed, built_tree, first_running}
-use Rattle.machine_core.specs.Machine.{State, start}
-use Rattle.machine_core.specs.Outcome.{Job, done, more, IsOutcome}
+use Rattle.outcome_core.specs.Machine.{State, start}
+use Rattle.outcome_core.specs.Outcome.{Job, done, more, IsOutcome}
 use Rattle.machine_core.specs.Running.{Running, state_of}
-use Rattle.machine_core.specs.Turned.{EndsTurns, IsSound, TurnsLead}
+use Rattle.machine_core.specs.Turned.{EndsTurns, IsSound}
+use Rattle.outcome_core.specs.Machine.{TurnsLead}
 use Rattle.decode_core.specs.declared.decoder.Progress.{Progress}
 use Rattle.decode_core.specs.declared.decoder.Progress.TheVariants as progress
 use Rattle.decode_core.specs.declared.fault.DecodeFault.{DecodeFault}

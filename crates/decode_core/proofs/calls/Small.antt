@@ -10,23 +10,24 @@ use Rattle.grammar_core.specs.Begun.{begun_preorder, begun_nodes, begun_text_byt
 use Rattle.grammar_core.specs.Preorder.{Head, tree_of, tree_of-preorder}
 use Rattle.grammar_core.specs.Reading.{truncated}
 use Rattle.grammar_core.specs.Tree.{nodes, text_bytes}
-use Rattle.value_core.specs.Built.{Entry, Pieces, entries_text_bytes, built_text_bytes}
+use Rattle.value_core.specs.Built.{Pieces, entries_text_bytes, built_text_bytes}
+use Rattle.grammar_core.specs.Preorder.{Entry}
 use Rattle.value_core.specs.Built.{pieces_bytes}
 use Rattle.value_core.proofs.Begun.{counts}
 use Rattle.value_core.proofs.Finished.{heads_text}
-use Rattle.machine_core.specs.Bound.{node_bound, value_bound}
+use Rattle.outcome_core.specs.Bound.{node_bound, value_bound}
 use Rattle.node_core.specs.Shown.{Seen}
 use Rattle.decode_core.specs.Decoding.{FinishesDecoder, IsSmallValue, IsDone, IsSmall, IsWaiting}
 use Rattle.decode_core.specs.Decoding.{RunCounted, RunLed, built_tree, first_running}
-use Rattle.machine_core.specs.Outcome.{Job}
+use Rattle.outcome_core.specs.Outcome.{Job}
 use Rattle.machine_core.specs.Running.{Running, held_of, run_held}
-use Rattle.machine_core.specs.Reported.{Fault, shown}
+use Rattle.outcome_core.specs.Reported.{Fault, shown}
 use Rattle.machine_core.specs.Turned.{IsSound}
 use Rattle.decode_core.specs.declared.fault.DecodeFault.{DecodeFault}
-use Rattle.machine_core.proofs.lists.FaultBegins.{fault_is_begun}
-use Rattle.machine_core.proofs.lists.OutcomeBound.{held_is_bounded}
-use Rattle.machine_core.proofs.lists.FaultBound.{begins_small, more_bytes}
-use Rattle.machine_core.proofs.lists.BegunBound.{begun_is_bounded}
+use Rattle.outcome_core.proofs.FaultBegins.{fault_is_begun}
+use Rattle.outcome_core.proofs.OutcomeBound.{held_is_bounded}
+use Rattle.decode_core.proofs.calls.FaultBound.{begins_small, more_bytes}
+use Rattle.outcome_core.proofs.BegunBound.{begun_is_bounded}
 use Rattle.machine_core.proofs.steps.Short.{carry_small}
 
 -- the bytes of texts are counted the same with the types of nodes and without them

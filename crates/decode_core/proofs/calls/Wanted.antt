@@ -18,21 +18,22 @@ use Rattle.grammar_core.proofs.Runs.{length_extends}
 use Rattle.grammar_core.specs.Parts.{Part}
 use Rattle.grammar_core.specs.Preorder.{Head}
 use Rattle.grammar_core.specs.Reading.{truncated, layout_at}
-use Rattle.value_core.specs.Built.{Built, Entry, next_entry, next_layout}
+use Rattle.value_core.specs.Built.{Built, next_entry, next_layout}
+use Rattle.grammar_core.specs.Preorder.{Entry}
 use Rattle.decode_core.specs.Decoding.{RanOut}
-use Rattle.machine_core.specs.Machine.{remain}
+use Rattle.outcome_core.specs.Machine.{remain}
 use Rattle.machine_core.specs.NodeAdds.{with_own}
-use Rattle.machine_core.specs.Outcome.{Job, more, IsOutcome}
+use Rattle.outcome_core.specs.Outcome.{Job, more, IsOutcome}
 use Rattle.machine_core.specs.Running.{held_of, state_of}
-use Rattle.form_core.specs.PlainReads.{Own}
-use Rattle.machine_core.specs.Reported.{Reported, reported, after, own_at, reported_at}
+use Rattle.grammar_core.specs.Reading.{Own}
+use Rattle.outcome_core.specs.Reported.{Reported, reported, after, own_at, reported_at}
 use Rattle.machine_core.specs.Turned.{KeepsNode, KeepsRun}
 use Rattle.decode_core.specs.Wanted.{GoesOn, WantedGoesOn}
-use Rattle.machine_core.proofs.lists.Fed.{fault_value, whole_reported}
+use Rattle.outcome_core.proofs.Fed.{fault_value, whole_reported}
 use Rattle.machine_core.proofs.steps.LengthAdding.{run_cut}
-use Rattle.machine_core.proofs.lists.Owns.{own_extends}
+use Rattle.outcome_core.proofs.Owns.{own_extends}
 use Rattle.machine_core.proofs.steps.Refusing.{remain_next}
-use Rattle.machine_core.proofs.lists.Shortest.{reason_reports, refusal_reports}
+use Rattle.outcome_core.proofs.Shortest.{reason_reports, refusal_reports}
 use Rattle.machine_core.proofs.steps.MachineTurn.{added_leads, at_next}
 
 -- ---- fewer bytes than spell a node, or begin a run, are too few

@@ -10,7 +10,7 @@ use Rattle.grammar_core.specs.declared.form.Next.TheVariants as next
 use Rattle.value_core.specs.Built.{Built, next_layout, with_run_opened}
 use Rattle.value_core.specs.Walked.{next_of}
 use Rattle.machine_core.specs.Running.{Running, IsCarry, IsRunning, held_of}
-use Rattle.machine_core.specs.Reported.{own_at}
+use Rattle.outcome_core.specs.Reported.{own_at}
 use Rattle.machine_core.specs.Turned.{KeepsNode, KeepsRun, PieceReports, StepReports}
 use Rattle.machine_core.specs.Turned.{WantsBytes}
 use Rattle.machine_core.specs.Turned.{Turned}

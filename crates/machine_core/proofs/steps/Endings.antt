@@ -21,10 +21,10 @@ use Rattle.grammar_core.specs.declared.form.StopReason.TheVariants as stopped
 use Rattle.value_core.specs.Built.{Built, Pieces, settled_in}
 use Rattle.value_core.specs.Refusals.{is_whole_in}
 use Rattle.value_core.specs.Walked.{OpenPart, Walked, first_in, next_from, next_of, next_type}
-use Rattle.machine_core.specs.Machine.{State, remain}
+use Rattle.outcome_core.specs.Machine.{State, remain}
 use Rattle.machine_core.specs.Reasons.{reason_of, stop_refusal}
 use Rattle.machine_core.specs.Running.{IsCarry, IsRunning, IsRunNext, held_of, run_held, state_of}
-use Rattle.machine_core.specs.Reported.{reported, rest_reported}
+use Rattle.outcome_core.specs.Reported.{reported, rest_reported}
 use Rattle.machine_core.specs.Turned.{EndsTurns}
 use Rattle.machine_core.specs.declared.turned.Stopped.TheVariants as stop
 use Rattle.machine_core.proofs.steps.Refusing.{no_cut, stop_refuses}

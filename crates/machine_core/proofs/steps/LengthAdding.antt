@@ -28,7 +28,7 @@ use Rattle.form_core.specs.Needs.{AreOwn, HasBytes}
 use Rattle.machine_core.specs.NodeAdds.{AddsBytes, IsAdded, IsRefused, IsSpelled}
 use Rattle.machine_core.specs.NodeAdds.{with_own}
 use Rattle.machine_core.specs.Reasons.{reason_of}
-use Rattle.machine_core.specs.Reported.{length_own, own_at}
+use Rattle.outcome_core.specs.Reported.{length_own, own_at}
 use Rattle.machine_core.proofs.steps.NodeAdding.{all_read, next_has, next_run}
 use Rattle.machine_core.proofs.steps.Whole.{IsDefinite, settled_at, u32_is, basic_whole}
 

@@ -14,16 +14,16 @@ use Rattle.value_core.specs.Walked.{OpenPart, first_in, next_type, next_of, adva
 use Rattle.grammar_core.specs.declared.form.Form.{Form}
 use Rattle.grammar_core.specs.declared.form.Next.TheVariants as next
 use Rattle.value_core.proofs.Forms.{wanted}
-use Rattle.machine_core.specs.Met.{met_layout}
+use Rattle.outcome_core.specs.Met.{met_layout}
 use Rattle.machine_core.specs.NodeAdds.{IsAdded, with_own}
 use Rattle.machine_core.specs.Running.{state_of}
-use Rattle.machine_core.specs.Reported.{entry, own_at, reported, after, part_reported, reported_at}
-use Rattle.machine_core.specs.Reported.{rest_reported}
-use Rattle.machine_core.specs.Turned.{TurnLeads}
-use Rattle.machine_core.proofs.lists.Owns.{own_extends, SpellsNode}
-use Rattle.machine_core.proofs.lists.Reports.{after-nil}
-use Rattle.machine_core.proofs.lists.MachineTurns.{IsFirstOf, each_first, times_first, own_leaf}
-use Rattle.machine_core.proofs.lists.MachineTurns.{own_opens}
+use Rattle.outcome_core.specs.Reported.{entry, own_at, reported, after, part_reported, reported_at}
+use Rattle.outcome_core.specs.Reported.{rest_reported}
+use Rattle.outcome_core.specs.Machine.{TurnLeads}
+use Rattle.outcome_core.proofs.Owns.{own_extends, SpellsNode}
+use Rattle.outcome_core.proofs.Reports.{after-nil}
+use Rattle.outcome_core.proofs.MachineTurns.{IsFirstOf, each_first, times_first, own_leaf}
+use Rattle.outcome_core.proofs.MachineTurns.{own_opens}
 
 -- what is next: the innermost open part, its next type, and the levels left below it
 pub record AtNext (b : Built) : Type 0 where

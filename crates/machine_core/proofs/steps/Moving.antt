@@ -11,15 +11,15 @@ use Rattle.grammar_core.specs.declared.form.Next.TheVariants as next
 use Rattle.types_core.specs.declared.type_info.TypeInfo.{TypeInfo}
 use Rattle.value_core.specs.Refusals.{is_complete, is_whole_in}
 use Rattle.value_core.specs.Walked.{OpenPart, first_in, next_from, next_of}
-use Rattle.machine_core.specs.Machine.{State, remain, to_go}
+use Rattle.outcome_core.specs.Machine.{State, remain, to_go}
 use Rattle.machine_core.specs.Running.{Running, held_of, state_of}
-use Rattle.machine_core.specs.Reported.{after}
+use Rattle.outcome_core.specs.Reported.{after}
 use Rattle.machine_core.specs.Turned.{FeedReports, IsSame, IsSound, Moves, StepReports}
 use Rattle.machine_core.specs.Turned.{Steps}
 use Rattle.machine_core.specs.Turned.{left_to_do, types_in}
 use Rattle.machine_core.specs.declared.turned.Stopped.{Stopped}
 use Rattle.machine_core.specs.declared.turned.Stopped.TheVariants as stop
-use Rattle.machine_core.proofs.lists.MachineTurns.{nearer}
+use Rattle.outcome_core.proofs.MachineTurns.{nearer}
 use Rattle.std.specs.Prelude.{Err, Ok}
 
 -- no bytes lead from a decoder to itself

@@ -13,14 +13,14 @@ use Rattle.grammar_core.specs.declared.form.Form.{Form}
 use Rattle.grammar_core.specs.declared.form.Form.TheVariants as form
 use Rattle.grammar_core.specs.declared.form.Next.TheVariants as next
 use Rattle.value_core.proofs.Forms.{HasForm, form_layout, run_layout, wanted}
-use Rattle.machine_core.specs.Machine.{is_cut}
+use Rattle.outcome_core.specs.Machine.{is_cut}
 use Rattle.form_core.specs.Needs.{AreOwn, HasBytes, NoRun}
 use Rattle.machine_core.specs.NodeAdds.{AddsNode}
 use Rattle.machine_core.specs.Reasons.{reason_of}
-use Rattle.machine_core.specs.Reported.{own_at}
+use Rattle.outcome_core.specs.Reported.{own_at}
 use Rattle.machine_core.specs.declared.node.NodeFault.{NodeFault}
 use Rattle.machine_core.specs.declared.node.NodeFault.TheVariants as fault
-use Rattle.machine_core.proofs.lists.Targets.{wanted_target}
+use Rattle.outcome_core.proofs.Targets.{wanted_target}
 use Rattle.machine_core.proofs.steps.Whole.{IsTakenWhole, NeedsThese, form_whole}
 
 -- the layout of the next type has the form that is wanted

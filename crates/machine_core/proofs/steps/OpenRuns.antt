@@ -32,9 +32,10 @@ use Rattle.form_core.specs.Needs.{HasBytes}
 use Rattle.machine_core.specs.NodeAdds.{IsAdded}
 use Rattle.machine_core.specs.Running.{Running, IsLength, IsRunning, IsRunNext, held_of}
 use Rattle.machine_core.specs.Running.{run_held, state_of}
-use Rattle.form_core.specs.PlainReads.{leaf_own}
-use Rattle.machine_core.specs.Reported.{own_at}
-use Rattle.machine_core.specs.Turned.{EndReports, TurnLeads, EndsTurns, WantsBytes, WantsMemory}
+use Rattle.grammar_core.specs.Reading.{leaf_own}
+use Rattle.outcome_core.specs.Reported.{own_at}
+use Rattle.machine_core.specs.Turned.{EndReports, EndsTurns, WantsBytes, WantsMemory}
+use Rattle.outcome_core.specs.Machine.{TurnLeads}
 use Rattle.machine_core.specs.declared.reason.DecodeReason.TheVariants as reason
 use Rattle.machine_core.specs.declared.turned.Stopped.TheVariants as stop
 use Rattle.machine_core.proofs.steps.NodeAdding.{next_run}

@@ -30,8 +30,8 @@ use Rattle.machine_core.specs.NodeAdds.{AddsNode, IsAdded, IsSpelled}
 use Rattle.form_core.specs.NodeForms.{form_of_plain, plain_layout}
 use Rattle.form_core.specs.PlainReads.{ReadsPlain}
 use Rattle.machine_core.specs.Reasons.{reason_of}
-use Rattle.form_core.specs.PlainReads.{leaf_own}
-use Rattle.machine_core.specs.Reported.{own_at}
+use Rattle.grammar_core.specs.Reading.{leaf_own}
+use Rattle.outcome_core.specs.Reported.{own_at}
 use Rattle.form_core.specs.declared.forms.PlainForm.{PlainForm}
 use Rattle.form_core.specs.declared.forms.PlainForm.TheVariants as plain
 use Rattle.machine_core.specs.declared.node.NodeFault.{NodeFault}

@@ -32,20 +32,20 @@ use Rattle.grammar_core.specs.declared.form.Next.TheVariants as next
 use Rattle.grammar_core.specs.declared.form.StopReason.{StopReason}
 use Rattle.grammar_core.specs.declared.form.StopReason.TheVariants as stop
 use Rattle.value_core.proofs.Forms.{HasForm, wanted, IsStoppedBy, stopped}
-use Rattle.machine_core.specs.Decided.{Decided}
-use Rattle.machine_core.specs.Machine.{State, remain, is_cut}
-use Rattle.machine_core.specs.Met.{met_layout}
+use Rattle.outcome_core.specs.Decided.{Decided}
+use Rattle.outcome_core.specs.Machine.{State, remain, is_cut}
+use Rattle.outcome_core.specs.Met.{met_layout}
 use Rattle.form_core.specs.Needs.{compact_need, kind_need, need, AreOwn, HasBytes}
 use Rattle.machine_core.specs.Reasons.{stop_refusal}
 use Rattle.machine_core.specs.Running.{Running, held_of, state_of}
 use Rattle.machine_core.specs.Turned.{WantsBytes}
-use Rattle.machine_core.specs.Reported.{own_at, reported, then, reported_at, rest_reported}
-use Rattle.machine_core.proofs.lists.Left.{own_within}
+use Rattle.outcome_core.specs.Reported.{own_at, reported, then, reported_at, rest_reported}
+use Rattle.outcome_core.proofs.Left.{own_within}
 use Rattle.machine_core.proofs.steps.NodeAdding.{next_has}
-use Rattle.machine_core.proofs.lists.Owns.{own_extends}
+use Rattle.outcome_core.proofs.Owns.{own_extends}
 use Rattle.machine_core.proofs.steps.MachineTurn.{AtNext, at_next, top_of, first_is, open_parts}
 use Rattle.machine_core.proofs.steps.MachineTurn.{state_is}
-use Rattle.machine_core.proofs.lists.Targets.{wanted_target}
+use Rattle.outcome_core.proofs.Targets.{wanted_target}
 use Rattle.machine_core.proofs.steps.Whole.{u32_is}
 
 -- ---- fewer bytes than a node needs

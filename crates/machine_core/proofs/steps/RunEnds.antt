@@ -5,11 +5,12 @@ use Rattle.std.proofs.lemmas.List.{append-nil}
 use Rattle.std.proofs.Math.Seq.{take-append_seam}
 use Rattle.grammar_core.specs.Runs.{run_front}
 use Rattle.value_core.specs.Built.{Built, with_piece}
-use Rattle.machine_core.specs.Decided.{Decided}
-use Rattle.machine_core.specs.Machine.{remain}
-use Rattle.machine_core.specs.Reported.{reported}
+use Rattle.outcome_core.specs.Decided.{Decided}
+use Rattle.outcome_core.specs.Machine.{remain}
+use Rattle.outcome_core.specs.Reported.{reported}
 use Rattle.machine_core.specs.Running.{Running, held_of, state_of}
-use Rattle.machine_core.specs.Turned.{EndReports, EndsTurns, StepReports, Steps, TurnLeads}
+use Rattle.machine_core.specs.Turned.{EndReports, EndsTurns, StepReports, Steps}
+use Rattle.outcome_core.specs.Machine.{TurnLeads}
 use Rattle.machine_core.specs.declared.reason.DecodeReason.{DecodeReason}
 use Rattle.machine_core.specs.declared.turned.Stopped.TheVariants as stop
 use Rattle.machine_core.specs.Turned.{Turned}

@@ -25,7 +25,7 @@ use Rattle.machine_core.specs.NodeAdds.{IsAdded, with_own}
 use Rattle.machine_core.specs.Running.{Running, IsRunning, IsCarry, held_of}
 use Rattle.machine_core.specs.Turned.{IsSame, Steps, StepReports, EndsTurns, WantsMemory}
 use Rattle.machine_core.specs.Turned.{HasParts, node_turned}
-use Rattle.machine_core.specs.Reported.{own_at}
+use Rattle.outcome_core.specs.Reported.{own_at}
 use Rattle.grammar_core.specs.Reading.{truncated}
 use Rattle.machine_core.specs.declared.reason.DecodeReason.{DecodeReason}
 use Rattle.machine_core.specs.declared.node.NodeFault.{NodeFault}

@@ -27,11 +27,11 @@ use Rattle.grammar_core.specs.Ways.{leaf_of, leaf_by, judged_leaf}
 use Rattle.grammar_core.specs.declared.form.Form.{Form}
 use Rattle.grammar_core.specs.declared.form.Form.TheVariants as form
 use Rattle.value_core.proofs.Forms.{HasForm}
-use Rattle.machine_core.specs.Machine.{is_cut}
+use Rattle.outcome_core.specs.Machine.{is_cut}
 use Rattle.form_core.specs.Needs.{compact_need, kind_need, AreOwn, HasBytes, IsNoText}
-use Rattle.form_core.specs.PlainReads.{leaf_own}
-use Rattle.machine_core.specs.Reported.{arm_own, arms_own, length_own, own_at}
-use Rattle.machine_core.proofs.lists.ByFault.{IsJudged, Judges, judges}
+use Rattle.grammar_core.specs.Reading.{leaf_own}
+use Rattle.outcome_core.specs.Reported.{arm_own, arms_own, length_own, own_at}
+use Rattle.outcome_core.proofs.ByFault.{IsJudged, Judges, judges}
 
 -- nothing is left, or the refusal does not wait for more bytes
 abbrev pub IsTakenWhole : {X : Type 0} → Read Refusal X → Type 0

@@ -31,8 +31,8 @@ use Rattle.value_core.specs.Built.{Built, FitsKind, IsNextLeaf, next_layout, wit
 use Rattle.value_core.specs.Walked.{Walked, next_of}
 use Rattle.value_core.proofs.NextLeaf.{compact_next, run_next}
 use Rattle.machine_core.specs.NodeAdds.{IsAdded, IsWholeLeaf}
-use Rattle.form_core.specs.PlainReads.{leaf_own}
-use Rattle.machine_core.specs.Reported.{own_at}
+use Rattle.grammar_core.specs.Reading.{leaf_own}
+use Rattle.outcome_core.specs.Reported.{own_at}
 use Rattle.machine_core.specs.Running.{Running, IsRunning}
 use Rattle.machine_core.specs.Turned.{Awaits, WantsMemory, WholeReports}
 use Rattle.machine_core.specs.declared.turned.Tried.TheVariants as tried

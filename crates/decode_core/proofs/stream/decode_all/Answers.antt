@@ -1,7 +1,7 @@
 use Rattle.std.proofs.Common.{ap, ◌∙◌}
 use Rattle.std.proofs.lemmas.Result.{err_from_is_err_and}
 use Rattle.decode_core.specs.Decoding.{Decoding, first_of_all, opening_fault}
-use Rattle.machine_core.specs.Outcome.{Job}
+use Rattle.outcome_core.specs.Outcome.{Job}
 use Rattle.decode_core.specs.Streaming.{FailsAfter, job_of}
 use Rattle.decode_core.proofs.Answering.{end_streams, fault_streams, fed_false, stopped_open}
 use Rattle.decode_core.proofs.Answering.{value_streams}

@@ -2,7 +2,7 @@ use Rattle.std.proofs.Common.{rules, arith, ap, take, suc, [], ◌++◌, ◌∙�
 use Rattle.std.proofs.KnownBytes.{Consumes-nil, Consumes-trans}
 use Rattle.std.proofs.lemmas.List.{length-take}
 use Rattle.std.proofs.lemmas.Result.{err_from_is_err_and}
-use Rattle.machine_core.specs.Outcome.{Job}
+use Rattle.outcome_core.specs.Outcome.{Job}
 use Rattle.decode_core.specs.Streaming.{FailsAfter, FailsAt}
 use Rattle.decode_core.proofs.Streaming.{end_known, ended_known, gives_next, look_feeds, more_by}
 use Rattle.decode_core.proofs.Streaming.{stops_open, trails_within, under_way_open}

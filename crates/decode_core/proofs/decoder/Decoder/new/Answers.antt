@@ -1,6 +1,6 @@
 use Rattle.std.proofs.Common.{◌≡◌, ◌∙◌, [], ap, arith, length, inl}
 use Rattle.value_core.specs.Built.{Built}
-use Rattle.machine_core.specs.Outcome.{Job}
+use Rattle.outcome_core.specs.Outcome.{Job}
 use Rattle.machine_core.specs.Running.{Running}
 use Rattle.decode_core.proofs.calls.Opening.{first_going}
 use Rattle.decode_core.proofs.decoder.Decoder.new.Goals as goal

@@ -1,7 +1,7 @@
 use Rattle.std.proofs.Common.{◌≤◌, ap, arith, length, subst}
 use Rattle.graph_core.specs.Widths.{widest}
 use Rattle.decode_core.specs.Viewed.{job_within}
-use Rattle.machine_core.specs.Bound.{node_bound}
+use Rattle.outcome_core.specs.Bound.{node_bound}
 use Rattle.decode_core.specs.Decoding.{Decoding}
 use Rattle.value_core.specs.Built.{Built}
 use Rattle.decode_core.proofs.calls.Inside.{small_inside}

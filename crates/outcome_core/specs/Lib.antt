@@ -1,0 +1,10 @@
+pub mod Outcome
+pub mod Taken
+pub mod HeldTree
+pub mod Bound
+pub mod HeldLaws
+pub mod Met
+pub mod Reported
+pub mod Machine
+pub mod Begins
+pub mod Decided
