@@ -8,7 +8,7 @@ use Rattle.std.specs.Io.KnownBytes.{Consumes, IsAtEnd, Keeps}
 use Rattle.std.proofs.KnownBytes.{Consumes-kept}
 use Rattle.std.proofs.lemmas.List.{length-take, nil_from_length}
 use Rattle.types_core.specs.declared.type_info.TypeInfo.{TypeInfo}
-use Rattle.grammar_core.specs.declared.limits.Limits.{Limits}
+use Rattle.limits_core.specs.declared.limits.Limits.{Limits}
 use Rattle.grammar_core.specs.Tree.{Tree}
 use Rattle.decode_core.specs.Decoding.{AnswersPiece, Decoding, FinishesDecoder, IsEnded, Led}
 use Rattle.decode_core.specs.Decoding.{OpensDecoder, first_of_all}
