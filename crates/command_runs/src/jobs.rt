@@ -1,6 +1,6 @@
 //! Jobs with a depth that the command accepts.
 
-ghost use Rattle.scale_tool.specs.Answer.{IsServed};
+ghost use Rattle.command_line.specs.Line.{IsServed};
 
 use scale_tool::Job;
 

@@ -11,7 +11,7 @@ use Rattle.value_core.specs.Built.{Built, built_text_bytes, finished}
 use Rattle.value_core.specs.Refusals.{is_complete}
 use Rattle.node_core.specs.Shown.{Seen}
 use Rattle.value_core.specs.Walked.{start_of}
-use Rattle.grammar_core.specs.declared.limits.Limits.{Limits}
+use Rattle.limits_core.specs.declared.limits.Limits.{Limits}
 use Rattle.decode_core.specs.declared.fault.OpenFault.{OpenFault}
 use Rattle.decode_core.specs.declared.fault.OpenFault.TheVariants as opening
 use Rattle.widths_core.specs.Layouts.{layout}

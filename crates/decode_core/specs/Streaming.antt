@@ -7,7 +7,7 @@ use Rattle.types_core.specs.declared.type_info.TypeInfo.{TypeInfo}
 use Rattle.graph_core.specs.Widths.{widest}
 use Rattle.grammar_core.specs.Tree.{Tree, nodes, text_bytes}
 use Rattle.node_core.specs.Shown.{Seen}
-use Rattle.grammar_core.specs.declared.limits.Limits.{Limits}
+use Rattle.limits_core.specs.declared.limits.Limits.{Limits}
 use Rattle.outcome_core.specs.Bound.{value_bound}
 use Rattle.outcome_core.specs.Outcome.{Job, done, more, IsOutcome}
 use Rattle.decode_core.specs.Decoding.{Decoding, FinishesDecoder, Led, first_of_all}

@@ -3,8 +3,7 @@
 
 mod form;
 pub mod laws;
-mod limits;
 
 pub use form::{Form, Next, StopReason, next_at, next_of_step};
-pub use limits::{Limits, MAX_DEPTH};
+pub use limits_core::{Limits, MAX_DEPTH};
 pub use widths_core::RunKind;

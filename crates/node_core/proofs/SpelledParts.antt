@@ -15,16 +15,6 @@ use Rattle.node_core.specs.Encoding.{encoding, IsEncoding, node_bytes}
 use Rattle.node_core.specs.declared.node.Node.{Node}
 use Rattle.std.specs.Io.KnownBytes.{Appends}
 
--- two appends of neighbouring parts are one
-pub appends_next : (a b c : Option (List ℕ)) (xs : List ℕ) (w n : ℕ) → Appends a b (take w xs) →
-    Appends b c (take n (drop w xs)) → Appends a c (take (w + n) xs)
-appends_next None b c xs w n p q = tt
-appends_next (Some a) None c xs w n p q = absurd p
-appends_next (Some a) (Some b) None xs w n p q = absurd q
-appends_next (Some a) (Some b) (Some c) xs w n p q =
-    q ∙ ap (λ v. v ++ take n (drop w xs)) p ∙ append_assoc a (take w xs) (take n (drop w xs))
-    ∙ ap (λ v. a ++ v) (sym (take-add w n xs))
-
 -- one append after another is an append of both
 pub appends_both : (a b c : Option (List ℕ)) (xs ys : List ℕ) → Appends a b xs → Appends b c ys →
     Appends a c (xs ++ ys)

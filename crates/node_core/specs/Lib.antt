@@ -1,5 +1,4 @@
 pub mod Encoding
-pub mod Failed
 pub mod Leaves
 pub mod Remaining
 pub mod Shown

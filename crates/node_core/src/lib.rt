@@ -19,6 +19,7 @@ pub use node_ref::NodeRef;
 pub use open_run::OpenRun;
 pub use pool::{long_at, put_piece};
 pub use remaining::{Frame, Remaining};
+pub use scale_core::{WriteFault, send};
 pub use value::Value;
 pub use what::What;
-pub use writing::{WriteFault, encode, index_of, pooled, send};
+pub use writing::{encode, index_of, pooled};

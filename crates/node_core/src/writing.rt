@@ -4,29 +4,20 @@ ghost use Rattle.std.specs.Prelude.{◌≡◌, ◌≤◌, ◌<◌, ◌+◌, ◌^
 ghost use Rattle.std.specs.Prelude.{IfErr, OnOk, is_ok, not};
 ghost use Rattle.std.specs.Io.KnownBytes.{Appends};
 ghost use Rattle.scale_core.specs.Number.{le_bytes};
+ghost use Rattle.scale_core.specs.Sending.{Meets};
 ghost use Rattle.graph_core.specs.Types.{shape};
 ghost use Rattle.grammar_core.specs.Spelled.{byte_width, width_of, index_of, index_byte};
 ghost use Rattle.grammar_core.specs.Spelled.{is_sequence, length_bytes};
 ghost use Rattle.node_core.specs.Shown.{IsInPool, kept_bytes};
 ghost use Rattle.node_core.specs.Encoding.{node_bytes, pool_bytes, Starts, encoding, IsEncoding};
-ghost use Rattle.node_core.specs.Failed.{Meets};
 
 use crate::node::{Content, Node};
 use crate::pool::long_at;
 use crate::value::Value;
-use scale_core::{Sink, SinkFault, WriteOnce, put_compact};
+use scale_core::{Sink, WriteFault, WriteOnce, put_compact, send};
 use std::alloc::Allocator;
 use types_core::{Primitive, PrimitiveKind, TypeDef, TypeId};
 use widths_core::Checked;
-
-/// A failed write, and how many bytes were written before it.
-#[derive(Clone, Copy, Debug, PartialEq, Eq)]
-pub struct WriteFault {
-    /// What the writer did.
-    pub reason: SinkFault,
-    /// The number of bytes that were written.
-    pub written: u64,
-}
 
 /// Returns the number of bytes of an integer of at most 128 bits, and 0 for another primitive type.
 fn byte_width(primitive: Primitive) -> usize
@@ -160,42 +151,6 @@ pub fn pooled<'v>(node: &Node, pool: &'v [u8]) -> &'v [u8]
         Content::Wide { start } => &pool[start..start + 32],
         _ => &pool[..0],
     }
-}
-
-/// Writes all the bytes. If there are none, no write is made.
-///
-/// # Errors
-///
-/// With the number of bytes written in all, which begin `bytes`; the sink has failed for good.
-///
-/// - `Device` if the writer returns an error, also for an interrupted write.
-/// - `WroteNothing` if the writer takes no byte of a part that is not empty.
-///
-/// Otherwise `failed()` is unchanged.
-pub fn send<W: WriteOnce>(sink: &mut Sink<W>, bytes: &[u8]) -> Result<(), WriteFault>
-    ensures ok { OnOk result (Appends (W.contents sink.old.device)
-        (W.contents sink.new.device) bytes.now) }
-    ensures part { IfErr result (λ f. f.written ≤ length bytes.now) }
-    ensures err { IfErr result (λ f. Appends (W.contents sink.old.device)
-        (W.contents sink.new.device) (take f.written bytes.now)) }
-    // The writer did to the last write what the reason says.
-    ensures met { IfErr result (λ f. Meets W.writes f.reason sink.new.device) }
-    ensures failed { sink.new.failed ≡ sink.old.failed || not (is_ok result) }
-    ensures none { length bytes.now ≡ 0 → (sink.new ≡ sink.old) × (is_ok result ≡ true) }
-{
-    let mut written = 0;
-    'parts: while written < bytes.len() {
-        match sink.put(&bytes[written..]) {
-            Ok(count) => written += count,
-            Err(reason) => {
-                return Err(WriteFault {
-                    reason,
-                    written: written as u64,
-                });
-            }
-        }
-    }
-    Ok(())
 }
 
 /// Writes the bytes of a node without those of its children, and returns how many they are.

@@ -1,4 +1,5 @@
 pub mod Numbers
+pub mod SentParts
 pub mod Fronts
 pub mod Characters
 pub mod Again

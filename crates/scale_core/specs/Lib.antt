@@ -4,5 +4,6 @@ pub mod Laws
 pub mod Number
 pub mod Read
 pub mod Rows
+pub mod Sending
 pub mod Stream
 pub mod Text

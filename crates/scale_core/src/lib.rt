@@ -12,6 +12,7 @@ mod device;
 mod fault;
 mod integer;
 pub mod laws;
+mod sending;
 mod sink;
 mod source;
 mod text;
@@ -26,6 +27,7 @@ pub use integer::{
     read_u128, read_wide, write_i8, write_i16, write_i32, write_i64, write_i128, write_u8,
     write_u16, write_u32, write_u64, write_u128, write_wide,
 };
+pub use sending::{WriteFault, send};
 pub use sink::{Sink, SinkFault};
 pub use source::{Source, SourceFault};
 pub use text::{read_text, write_text};

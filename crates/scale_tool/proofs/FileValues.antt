@@ -4,7 +4,7 @@ use Rattle.std.proofs.Common.{Option, Some, None, Ok, Err}
 use Rattle.std.proofs.Common.{refl, sym, ap, ◌∙◌, arith, subst}
 use Rattle.std.specs.Prelude.{IfSome, option_and_then, ⊤}
 use Rattle.types_core.specs.declared.type_info.TypeInfo.{TypeInfo}
-use Rattle.grammar_core.specs.declared.limits.Limits.{Limits}
+use Rattle.limits_core.specs.declared.limits.Limits.{Limits}
 use Rattle.node_core.specs.Shown.{Seen}
 use Rattle.outcome_core.specs.Outcome.{Job}
 use Rattle.decode_core.specs.Decoding.{opening_fault}
@@ -18,7 +18,7 @@ use Rattle.scale_calls.specs.Values.{RefusesValue, value_in}
 use Rattle.scale_calls.specs.declared.refusal.ValueRefusal.{ValueRefusal}
 use Rattle.scale_calls.specs.declared.refusal.ValueRefusal.TheVariants as call
 use Rattle.scale_calls.proofs.Decoded.{not_all, refused_by, spelled}
-use Rattle.scale_tool.specs.HexText.{hex_bytes}
+use Rattle.hex_text.specs.HexText.{hex_bytes}
 use Rattle.scale_tool.specs.Refused.{refusal_of_stream, refusal_of_value, status_of}
 use Rattle.scale_tool.specs.Values.{ReportsFile, StopsFile, file_value, reported, value_bytes}
 use Rattle.scale_tool.specs.declared.refusal.Refusal.TheVariants as refusal

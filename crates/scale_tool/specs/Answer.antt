@@ -8,8 +8,8 @@ use Rattle.scale_calls.specs.Opened.{checked_of, file_version}
 use Rattle.json_core.specs.Json.{json_text}
 use Rattle.node_core.specs.Shown.{Seen}
 use Rattle.scale_tool.specs.Values.{StopsFile, decoding, file_value}
-use Rattle.scale_tool.specs.declared.task.Job.{Job}
-use Rattle.scale_tool.specs.declared.task.Job.TheVariants as job
+use Rattle.command_line.specs.declared.task.Job.{Job}
+use Rattle.command_line.specs.declared.task.Job.TheVariants as job
 
 -- the types, if the position is one of theirs
 abbrev pub with_position : ℕ → List TypeInfo → Option (List TypeInfo)
@@ -81,8 +81,3 @@ StopsJob (job.Decode id metadata hex depth) registry fails known left =
 abbrev pub ReadsNoValue : Job → Type 0
 ReadsNoValue (job.Types metadata) = Unit {0}
 ReadsNoValue (job.Decode id metadata hex depth) = ⊥
-
--- the decoder supports the depth limit
-abbrev pub IsServed : Job → Type 0
-IsServed (job.Types metadata) = Unit {0}
-IsServed (job.Decode id metadata hex depth) = depth ≤ 1024

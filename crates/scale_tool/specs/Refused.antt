@@ -7,10 +7,8 @@ use Rattle.scale_calls.specs.declared.refusal.RegistryRefusal.{RegistryRefusal}
 use Rattle.scale_calls.specs.declared.refusal.RegistryRefusal.TheVariants as types
 use Rattle.scale_calls.specs.declared.refusal.ValueRefusal.{ValueRefusal}
 use Rattle.scale_calls.specs.declared.refusal.ValueRefusal.TheVariants as value
-use Rattle.scale_tool.specs.declared.refusal.Device.{Device}
-use Rattle.scale_tool.specs.declared.refusal.Device.TheVariants as device
-use Rattle.scale_tool.specs.declared.refusal.HexRefusal.{HexRefusal}
-use Rattle.scale_tool.specs.declared.refusal.HexRefusal.TheVariants as hex
+use Rattle.hex_text.specs.declared.fault.HexRefusal.{HexRefusal}
+use Rattle.hex_text.specs.declared.fault.HexRefusal.TheVariants as hex
 use Rattle.scale_tool.specs.declared.refusal.Refusal.{Refusal}
 use Rattle.scale_tool.specs.declared.refusal.Refusal.TheVariants as refusal
 
@@ -29,12 +27,6 @@ IsRejected e = status_of e ≡ 1
 -- a device failed
 abbrev pub IsDevice : Refusal → Type 0
 IsDevice e = status_of e ≡ 3
-
--- what is reported if this device fails
-abbrev pub device_line : Device → List ℕ
-device_line device.Registry = codes "scaleview: device: registry\n"
-device_line device.Value = codes "scaleview: device: value\n"
-device_line device.Output = codes "scaleview: device: output\n"
 
 -- ---- registries
 

@@ -8,15 +8,16 @@ use Rattle.decode_core.specs.Names as decode
 use Rattle.scale_calls.specs.Opened.{RefusesRegistry, checked_of}
 use Rattle.scale_calls.specs.declared.refusal.RegistryRefusal.TheVariants as types
 use Rattle.scale_tool.specs.Answer.{types_with}
-use Rattle.scale_tool.specs.Refused.{device_line, status_of}
+use Rattle.command_line.specs.Explained.{device_line}
+use Rattle.scale_tool.specs.Refused.{status_of}
 use Rattle.scale_tool.specs.Values.{ReportsFile, decoding}
-use Rattle.scale_tool.specs.declared.refusal.Device.TheVariants as device
-use Rattle.scale_tool.specs.declared.refusal.HexFault.{HexFault}
-use Rattle.scale_tool.specs.declared.refusal.HexFault.TheVariants as hex
+use Rattle.command_line.specs.declared.device.Device.TheVariants as device
+use Rattle.hex_text.specs.declared.fault.HexFault.{HexFault}
+use Rattle.hex_text.specs.declared.fault.HexFault.TheVariants as hex
 use Rattle.scale_tool.specs.declared.refusal.Refusal.{Refusal}
 use Rattle.scale_tool.specs.declared.refusal.Refusal.TheVariants as refusal
-use Rattle.scale_tool.specs.declared.task.Job.{Job}
-use Rattle.scale_tool.specs.declared.task.Job.TheVariants as job
+use Rattle.command_line.specs.declared.task.Job.{Job}
+use Rattle.command_line.specs.declared.task.Job.TheVariants as job
 
 -- ---- lines
 

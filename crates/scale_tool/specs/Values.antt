@@ -7,9 +7,9 @@ use Rattle.outcome_core.specs.Outcome as decoder
 use Rattle.decode_core.specs.Decoding.{FinishesDecoder}
 use Rattle.decode_core.specs.Streaming.{StopsOpen, Trails}
 use Rattle.scale_calls.specs.Values.{value_in}
-use Rattle.scale_tool.specs.HexText.{hex_bytes}
+use Rattle.hex_text.specs.HexText.{hex_bytes}
 use Rattle.scale_tool.specs.Refused.{IsRejected}
-use Rattle.scale_tool.specs.declared.refusal.HexFault.{HexFault}
+use Rattle.hex_text.specs.declared.fault.HexFault.{HexFault}
 use Rattle.scale_tool.specs.declared.refusal.Refusal.{Refusal}
 use Rattle.scale_tool.specs.declared.refusal.Refusal.TheVariants as refusal
 

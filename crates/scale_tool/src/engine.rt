@@ -2,26 +2,28 @@
 
 ghost use Rattle.std.specs.Prelude.{◌≡◌, ◌≤◌, ◌⊎◌, List, true, None, Some, IfOk, IfErr, IfSome};
 ghost use Rattle.std.specs.Prelude.{IsErrOf, OnOk, string_bytes};
+ghost use Rattle.scale_core.specs.Sending.{Sends};
 ghost use Rattle.types_core.specs.declared.type_info.TypeInfo.{TypeInfo};
 ghost use Rattle.decode_core.specs.Streaming.{FailsAfter};
-ghost use Rattle.scale_tool.specs.Answer.{HasJobType, IsServed, OnText, ReadsNoValue, StopsJob};
+ghost use Rattle.command_line.specs.Line.{IsServed};
+ghost use Rattle.scale_tool.specs.Answer.{HasJobType, OnText, ReadsNoValue, StopsJob};
 ghost use Rattle.scale_tool.specs.Answer.{StopsValue, WritesAll, WritesFront, line_of, types_text};
 ghost use Rattle.scale_tool.specs.Answer.{types_with, value_text};
-ghost use Rattle.scale_tool.specs.Devices.{FailsReading, FailsWriting, Sends};
+ghost use Rattle.scale_tool.specs.Devices.{FailsReading, FailsWriting};
 ghost use Rattle.scale_tool.specs.Refused.{IsDevice, IsRejected, status_of};
 ghost use Rattle.scale_tool.specs.Reported.{Faults, FaultsDecode, FaultsRegistry, Reports, Stands};
 ghost use Rattle.scale_tool.specs.Reported.{refusal_line};
 
+use crate::lines::refusal_line;
 use crate::refusal::Refusal;
 use crate::registry::{read_types, read_types_with};
-use crate::report::{refusal_line, report};
-use crate::task::Job;
 use crate::value::read_value;
+use command_line::Job;
 use json_core::json_text;
 use scale_calls::{push_type_lines, version_line};
-use scale_core::{ReadOnce, Sink, Source, WriteOnce};
+use scale_core::{ReadOnce, Sink, Source, WriteOnce, send};
 use std::alloc::{AllocError, Global};
-use value_core::{Value, send};
+use value_core::Value;
 
 /// Returns the text of a value's JSON and a line feed.
 fn line_text(alloc: Global, value: &Value<'_, Global>) -> Result<String, AllocError>
@@ -182,16 +184,16 @@ fn refuse<E: WriteOnce>(alloc: Global, refusal: Refusal, err: &mut Sink<E>) -> u
         × Sends E.writes E.contents err.old err.new (refusal_line Refusal.Memory)) }
 {
     if let Some(line) = refusal.fixed_line() {
-        report(line, err);
+        let _ = send(err, line.as_bytes());
         return refusal.status();
     }
     match refusal_line(alloc, refusal) {
         Ok(line) => {
-            report(line.as_str(), err);
+            let _ = send(err, line.as_bytes());
             refusal.status()
         }
         Err(_) => {
-            report("scaleview: memory\n", err);
+            let _ = send(err, b"scaleview: memory\n");
             Refusal::Memory.status()
         }
     }

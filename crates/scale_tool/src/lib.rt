@@ -2,21 +2,13 @@
 //! command line.
 #![tactic(auto)]
 
-mod commands;
-mod early_exit;
 mod engine;
 mod gathering;
-mod hex_text;
-mod jobs;
-pub mod laws;
+mod lines;
 mod refusal;
 mod registry;
-mod report;
-mod task;
 mod value;
 
-pub use early_exit::{explain, unopened};
+pub use command_line::{Device, Job, JobFault, explain, job, unopened};
 pub use engine::run;
-pub use jobs::{JobFault, job};
-pub use refusal::Device;
-pub use task::Job;
+pub use hex_text::laws;

@@ -1,54 +1,18 @@
-//! Why the command has no answer: the faults of the parts of a job, and the refusal of the job,
-//! which determines the line on standard error and the exit status.
+//! Why the command has no answer: the refusal of a job, which determines the line on standard error
+//! and the exit status.
 
 ghost use Rattle.std.specs.Prelude.{◌≡◌, IfNone, IfSome};
-ghost use Rattle.scale_tool.specs.Refused.{device_line, refusal_of_hex, refusal_of_registry};
-ghost use Rattle.scale_tool.specs.Refused.{IsRejected, status_of};
+ghost use Rattle.scale_tool.specs.Refused.{IsRejected, refusal_of_hex, refusal_of_registry};
+ghost use Rattle.scale_tool.specs.Refused.{status_of};
 ghost use Rattle.scale_tool.specs.Reported.{refusal_line};
 ghost use Rattle.scale_tool.specs.declared.refusal.Refusal.TheVariants.{Memory};
 
+use command_line::Device;
 use decode_core::DecodeFault;
+use hex_text::{HexFault, HexRefusal};
 use registry_core::RegistryFault;
 use scale_calls::{RegistryRefusal, UnknownReference};
 use std::alloc::AllocError;
-
-/// A file that does not open, or on which a read or a write fails.
-#[derive(Clone, Copy, Debug, PartialEq, Eq)]
-pub enum Device {
-    Registry,
-    Value,
-    Output,
-}
-
-impl Device {
-    /// Returns the line that reports its failure.
-    pub(crate) fn line(self) -> &'static str
-        ensures { result.now ≡ device_line self }
-    {
-        match self {
-            Device::Registry => "scaleview: device: registry\n",
-            Device::Value => "scaleview: device: value\n",
-            Device::Output => "scaleview: device: output\n",
-        }
-    }
-}
-
-/// Why a text of hexadecimal digits holds no bytes, and where in its file.
-#[derive(Clone, Copy)]
-pub(crate) enum HexFault {
-    /// The number of digits is odd. The place is their end.
-    Odd(u64),
-    /// A byte that is no digit.
-    Bad(u64),
-}
-
-/// Why a text of hexadecimal digits gives no bytes.
-#[derive(Clone, Copy)]
-pub(crate) enum HexRefusal {
-    Fault(HexFault),
-    /// An allocation failed.
-    Memory,
-}
 
 /// Why there is no answer.
 #[derive(Clone, Copy)]

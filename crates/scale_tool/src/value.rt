@@ -8,9 +8,9 @@ ghost use Rattle.decode_core.specs.Streaming.{FailsAfter};
 ghost use Rattle.decode_core.specs.declared.fault.OpenFault.{OpenFault as AnOpenFault};
 
 use crate::gathering::{GatherFault, gather_all};
-use crate::hex_text::hex_bytes;
 use crate::refusal::Refusal;
 use decode_core::{OpenFault, StreamFault, decode_all};
+use hex_text::hex_bytes;
 use registry_core::TypeId;
 use scale_calls::ValueRefusal;
 use scale_core::{ReadOnce, Source};

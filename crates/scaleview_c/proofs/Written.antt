@@ -1,6 +1,6 @@
 -- The JSON of a value that was read, and allocation failures on the way to it.
 use Rattle.std.proofs.Common.{ℕ, List, Ok, Err, ap, option_map, inl, inr}
-use Rattle.grammar_core.specs.declared.limits.Limits.{Limits}
+use Rattle.limits_core.specs.declared.limits.Limits.{Limits}
 use Rattle.node_core.specs.Shown.{Seen}
 use Rattle.json_core.specs.Json.{json_text}
 use Rattle.decode_core.specs.Decoding.{opening_fault}

@@ -1,7 +1,7 @@
 -- What each call does to what is behind its handles, and what it reports.
 use Rattle.std.specs.Prelude.{◌≡◌, ℕ, ◌⊎◌, List, [], ◌++◌, length, Bool, Option}
 use Rattle.std.specs.Prelude.{Some, None, MatchOption, Result, Ok, Err}
-use Rattle.grammar_core.specs.declared.limits.Limits.{Limits}
+use Rattle.limits_core.specs.declared.limits.Limits.{Limits}
 use Rattle.grammar_core.specs.Tree.{nodes, text_bytes as tree_text_bytes}
 use Rattle.json_core.specs.Json.{json_text}
 use Rattle.json_core.specs.Printed.{IsInFront}

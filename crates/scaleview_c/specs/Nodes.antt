@@ -4,7 +4,7 @@ use Rattle.std.specs.Prelude.{None}
 use Rattle.std.specs.Prelude.{Result, Ok, Err}
 use Rattle.types_core.specs.declared.type_info.TypeInfo.{TypeInfo}
 use Rattle.grammar_core.specs.Cells.{Cell}
-use Rattle.grammar_core.specs.declared.limits.Limits.{Limits}
+use Rattle.limits_core.specs.declared.limits.Limits.{Limits}
 use Rattle.node_core.specs.Encoding.{IsEncoding}
 use Rattle.node_core.specs.Shown.{Seen}
 use Rattle.value_core.specs.Refusals.{build_opening_fault}

@@ -1,5 +1,5 @@
 use Rattle.std.proofs.Common.{◌≡◌, Err, ap, inr, true}
-use Rattle.scale_tool.specs.Devices.{Sends}
+use Rattle.scale_core.specs.Sending.{Sends}
 use Rattle.scale_tool.specs.Reported.{Faults, Stands}
 use Rattle.scale_tool.proofs.Reports.{reports_refused, stands}
 use Rattle.scale_tool.proofs.engine.run.Goals as goal

@@ -1,6 +1,6 @@
 use Rattle.std.proofs.Common.{refl}
 use Rattle.std.proofs.lemmas.Result.{err_from_is_err_and}
-use Rattle.scale_tool.specs.declared.task.Job.TheVariants as job
+use Rattle.command_line.specs.declared.task.Job.TheVariants as job
 use Rattle.scale_tool.proofs.registry.read_types_with.Goals as goal
 
 pub returns-in_err-opened-clause-faults : goal.returns-in_err-opened-clause-faults

@@ -1,0 +1,3 @@
+pub mod Locals
+pub mod Entered
+pub mod Unnamed

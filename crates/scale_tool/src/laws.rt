@@ -1,9 +1,0 @@
-//! Laws of every text of hexadecimal digits.
-
-ghost use Rattle.scale_tool.specs.HexText.{HexIsRead};
-
-/// A text has bytes exactly if it is an optional `0x`, two hexadecimal digits of either case for
-/// each byte, and an optional line end (LF or CR LF). Its bytes are those.
-pub fn hex_is_read()
-    ensures { HexIsRead }
-{}
