@@ -89,7 +89,7 @@ among_right u [] ys h = h
 among_right u (x ∷ xs) ys h = inr (among_right u xs ys h)
 
 -- where neither one nor the other of two tests holds, each of them fails
-or_false : (a b : Bool) → (a || b) ≡ false → (a ≡ false) × (b ≡ false)
+pub or_false : (a b : Bool) → (a || b) ≡ false → (a ≡ false) × (b ≡ false)
 or_false true b e = absurd cc
 or_false false b e = (refl, e)
 

@@ -34,6 +34,7 @@ use Rattle.widths_core.specs.declared.run_kind.RunKind.TheVariants as kind
 use Rattle.grammar_core.specs.Runs.{IsRunLength, run_leaf}
 use Rattle.widths_core.proofs.Known.{empty_class, layout_empty}
 use Rattle.widths_core.proofs.FirstArm.{arm_is_first}
+use Rattle.widths_core.proofs.ArmReads.{arm_position}
 use Rattle.grammar_core.specs.Tree.{Leaf, Branch, Tree, leaf, branch, fields, arm}
 use Rattle.grammar_core.specs.Tree.{list, Trees, none, and, how_many}
 use Rattle.grammar_core.specs.Ways.{SpelledBy, way_of}
@@ -191,20 +192,12 @@ get_at : (before : List Arm) (a : Arm) (after : List Arm) →
 get_at [] a after = refl
 get_at (x ∷ before) a after = get_at before a after
 
--- the arm that is found for an index stands among the arms at the position that is reported
-arm_get : (arms : List Arm) (i q : ℕ) (a : Arm) → arm_of arms i ≡ Some (q, a) →
-    slice_get arms q ≡ Some a
-arm_get arms i q a e =
-    let s = (arm_is_first arms i q a).0 e in
-    ap (λ (x : List Arm). slice_get x q) s.2 ∙ ap (slice_get (s.0 ++ a ∷ s.1)) s.3
-    ∙ get_at s.0 a s.1
-
 -- the arm at the position that is found for an index has this index as its byte
 index_at : (arms : List Arm) (i q : ℕ) (a : Arm) → arm_of arms i ≡ Some (q, a) →
     index_byte (index_of (Some (Def.Variant arms)) q) ≡ i ∷ []
 index_at arms i q a e =
     let s = (arm_is_first arms i q a).0 e in
-    rw (arm_get arms i q a e) (ap (λ (x : ℕ). x ∷ []) s.4)
+    rw (arm_position arms i q a e) (ap (λ (x : ℕ). x ∷ []) s.4)
 
 -- ---- what stands before children
 
@@ -268,7 +261,7 @@ mutual
   spells r t (branch (arm q) vs) b p h =
       let first = arm_byte r t h.0 h.1 q h.2 h.4 h.5 in
       let rest = spells_vals r (field_types h.2.fields) vs h.3 (subst AreBytes h.6 p).1 h.7 in
-      rw (first, h.4, arm_get h.0 h.1 q h.2 h.5, rest) (sym h.6)
+      rw (first, h.4, arm_position h.0 h.1 q h.2 h.5, rest) (sym h.6)
   spells r t (branch list vs) b p (inl h) =
       rw (shaped_at r t (layout.array h.0 h.1) h.2, h.2) (spells_each r h.1 vs b p h.4)
   spells r t (branch list vs) b p (inr h) =

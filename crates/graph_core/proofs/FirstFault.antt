@@ -65,11 +65,11 @@ FirstUnknownAt n j r i u = (before : List TypeInfo) × (x : TypeInfo) × (after 
     × (front back : List ℕ) × (r ≡ before ++ x ∷ after) × (i ≡ j + length before)
     × (references x.shape ≡ front ++ u ∷ back) × AreChecked n before × AreKnown n front × (n ≤ u)
 
-abbrev found : ℕ × ℕ → Option (ℕ × ℕ)
+abbrev pub found : ℕ × ℕ → Option (ℕ × ℕ)
 found p = Some p
 
 -- two pairs that are found and equal are one
-some_is : (p q : ℕ × ℕ) → found p ≡ found q → p ≡ q
+pub some_is : (p q : ℕ × ℕ) → found p ≡ found q → p ≡ q
 some_is p q e = cc
 
 -- a fault that is found is the first reference to no position, at its type

@@ -16,6 +16,7 @@ use Rattle.widths_core.specs.Arms.{arm_of}
 use Rattle.widths_core.specs.Classes.{is_empty}
 use Rattle.widths_core.specs.Layouts.{Layout, layout, layout_of_shape}
 use Rattle.widths_core.specs.Layouts as layout
+use Rattle.widths_core.proofs.ArmReads.{arm_position}
 use Rattle.grammar_core.specs.Tree.{Tree, Trees, none, and, nodes}
 use Rattle.grammar_core.specs.Tree as tree
 use Rattle.grammar_core.specs.Grammar.{Val, Vals}
@@ -25,7 +26,7 @@ use Rattle.node_core.specs.Shown.{Seen, IsValue, seen_parts, children_by, childr
 use Rattle.node_core.specs.Whats.{what_of}
 use Rattle.node_core.specs.declared.what.What.{What}
 use Rattle.node_core.specs.declared.what.What.TheVariants as what
-use Rattle.node_core.proofs.Below.{arm_get, arm_part_is}
+use Rattle.node_core.proofs.Below.{arm_part_is}
 use Rattle.json_core.specs.Defined.{defined_arm, composite_fields}
 use Rattle.json_core.specs.Json.{json_seen}
 use Rattle.json_core.specs.Tokens.{data_at}
@@ -77,7 +78,7 @@ arm_counted : (r : List TypeInfo) (t q i : ℕ) (arms : List Arm) (a : Arm) (vs 
 arm_counted r t q i arms a vs b e f h other is =
     let found : defined_arm (shape r t) q ≡ Some a =
     ap (λ (d : Option TypeDef). defined_arm d q) (defined_at r t (layout.arms arms) e)
-    ∙ arm_get arms i q a f in
+    ∙ arm_position arms i q a f in
     let both : Some a ≡ Some other = sym found ∙ is in
     let same : a ≡ other = cc in
     let many : length (children_by r t (tree.branch (tree.arm q) vs))

@@ -41,6 +41,7 @@ use Rattle.grammar_core.specs.Runs.{run_leaf}
 use Rattle.grammar_core.specs.Ways.{SpelledBy, way_of}
 use Rattle.widths_core.specs.declared.run_kind.RunKind.{RunKind}
 use Rattle.widths_core.specs.declared.run_kind.RunKind.TheVariants as kind
+use Rattle.widths_core.proofs.ArmReads.{arm_position}
 use Rattle.grammar_core.specs.Grammar.{Val, Vals}
 use Rattle.grammar_core.specs.Parts.{Part, times}
 use Rattle.grammar_core.specs.Cells.{fields_part, arm_part, list_part}
@@ -49,7 +50,7 @@ use Rattle.node_core.specs.Shown.{text_of}
 use Rattle.node_core.specs.Whats.{what_of}
 use Rattle.node_core.specs.declared.what.What.{What}
 use Rattle.node_core.specs.declared.what.What.TheVariants as what
-use Rattle.node_core.proofs.Below.{arm_get, arm_part_is}
+use Rattle.node_core.proofs.Below.{arm_part_is}
 use Rattle.json_core.specs.Defined.{unsigned_by, signed_by, width_json, kind_json, integer_json}
 use Rattle.json_core.specs.Defined.{compact_json}
 use Rattle.json_core.specs.declared.integer_json.IntegerJson.{IntegerJson}
@@ -249,7 +250,7 @@ arm_reported : (r : List TypeInfo) (t q i : ℕ) (arms : List Arm) (a : Arm)
     Vals r (field_types a.fields) vs b → JsonReported r t (tree.branch (tree.arm q) vs) (what.Arm q)
 unfolding json_of
 arm_reported r t q i arms a vs b e f h =
-    let got : slice_get arms q ≡ Some a = arm_get arms i q a f in
+    let got : slice_get arms q ≡ Some a = arm_position arms i q a f in
     let at : arm_at_position (layout r t) q ≡ Some a = ap (λ (g : Layout). arm_at_position g q) e
     ∙ got in
     let parts : jsons (seen_parts r (arm_part (layout r t) q) vs)

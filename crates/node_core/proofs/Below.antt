@@ -10,7 +10,7 @@ use Rattle.graph_core.specs.Types.{field_types}
 use Rattle.widths_core.specs.Arms.{arm_of}
 use Rattle.widths_core.specs.Layouts.{layout}
 use Rattle.widths_core.specs.Layouts as layout
-use Rattle.widths_core.proofs.FirstArm.{arm_is_first}
+use Rattle.widths_core.proofs.ArmReads.{arm_position}
 use Rattle.scale_core.proofs.Numbers.{front_bytes, rest_bytes}
 use Rattle.grammar_core.specs.Tree as tree
 use Rattle.grammar_core.specs.Tree.{Tree, Trees, none, and, how_many}
@@ -51,19 +51,11 @@ get_at : (before : List Arm) (a : Arm) (after : List Arm) →
 get_at [] a after = refl
 get_at (x ∷ before) a after = get_at before a after
 
--- the arm that is found for an index stands among the arms at the position that is reported
-pub arm_get : (arms : List Arm) (i q : ℕ) (a : Arm) → arm_of arms i ≡ Some (q, a) →
-    slice_get arms q ≡ Some a
-arm_get arms i q a e =
-    let s = (arm_is_first arms i q a).0 e in
-    ap (λ (x : List Arm). slice_get x q) s.2 ∙ ap (slice_get (s.0 ++ a ∷ s.1)) s.3
-    ∙ get_at s.0 a s.1
-
 -- the types of an arm's fields
 pub arm_part_is : (r : List TypeInfo) (t q : ℕ) (arms : List Arm) (i : ℕ) (a : Arm) →
     layout r t ≡ layout.arms arms → arm_of arms i ≡ Some (q, a) →
     arm_part (layout r t) q ≡ each (field_types a.fields)
-arm_part_is r t q arms i a e f = rw (e, arm_get arms i q a f) refl
+arm_part_is r t q arms i a e f = rw (e, arm_position arms i q a f) refl
 
 -- the parts of a node, and their types
 abbrev pub types_of_parts : List TypeInfo → ℕ → Tree → Part
@@ -86,7 +78,7 @@ children_are : (r : List TypeInfo) (t : ℕ) (v : Tree) (b : List ℕ) → AreBy
 unfolding Val
 children_are r t (tree.branch tree.fields vs) b p h = rw h.1 (vals_are r h.0 vs b p h.2)
 children_are r t (tree.branch (tree.arm q) vs) b p h =
-    rw (h.4, arm_get h.0 h.1 q h.2 h.5)
+    rw (h.4, arm_position h.0 h.1 q h.2 h.5)
     (vals_are r (field_types h.2.fields) vs h.3 (subst AreBytes h.6 p).1 h.7)
 children_are r t (tree.branch tree.list vs) b p (inl h) = rw h.2 (each_are r h.1 vs b p h.4)
 children_are r t (tree.branch tree.list vs) b p (inr h) =

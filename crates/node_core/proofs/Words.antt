@@ -21,7 +21,7 @@ word_back n h = from_le_bytes-number w128 (to_le_bytes w128 n)
     ∙ number-le_bytes 16 n (omega (arith, h))
 
 -- an integer of 128 bits is read back from its cast to 128 bits without sign
-signed_same : (z : ℤ) → FitsSigned w128 z → signed_from (cast_unsigned w128 z) ≡ z
+pub signed_same : (z : ℤ) → FitsSigned w128 z → signed_from (cast_unsigned w128 z) ≡ z
 signed_same (pos m) h = rw (lt-ltb (2 * m) (2 ^ 128) (omega (arith, h))) refl
 signed_same (negsuc m) h =
     let high : ltb (2 * (2 ^ 128 - suc m)) (2 ^ 128) ≡ false =

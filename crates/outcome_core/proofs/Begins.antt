@@ -1,5 +1,5 @@
 -- Where a begun tree is held, bytes are missing, and it is the one that is computed.
-use Rattle.std.proofs.Common.{◌≡◌, ℕ, zero, suc, ◌≤◌, List, [], ◌++◌, Option, Some}
+use Rattle.std.proofs.Common.{◌≡◌, ℕ, zero, suc, ◌≤◌, List, [], ◌++◌, Some}
 use Rattle.std.proofs.Common.{Err, refl, sym, ap, subst, ◌∙◌, append_assoc, arith}
 use Rattle.types_core.specs.declared.type_info.TypeInfo.{TypeInfo}
 use Rattle.widths_core.specs.Layouts.{layout}
@@ -16,6 +16,7 @@ use Rattle.outcome_core.specs.HeldTree.{IsShort, held, parts_held}
 use Rattle.outcome_core.specs.HeldTree.{BegunIsMissing}
 use Rattle.outcome_core.proofs.Fed.{fault_value}
 use Rattle.outcome_core.proofs.Owns.{opened_again}
+use Rattle.graph_core.proofs.FirstFault.{some_is}
 
 -- where values stand before a cut part, they and its begun tree are held
 first_front : (r : List TypeInfo) (room : ℕ) (p : Part) (vs : Trees) (b : List ℕ) (left : Part)
@@ -49,13 +50,6 @@ bare_read r (suc room) t e h =
     let cut : reported_at r (suc room) t e ≡ reported [] (Err ((truncated, h.2), e)) =
     rw (h.1, h.3) refl in
     ((h.2, fault_value r (suc room) t e [] truncated h.2 e cut), rw h.3 refl)
-
-abbrev found : ℕ × ℕ → Option (ℕ × ℕ)
-found p = Some p
-
--- two pairs that are found and equal are one
-some_is : (p q : ℕ × ℕ) → found p ≡ found q → p ≡ q
-some_is p q e = cc
 
 -- a begun tree and too few bytes after it are read as cut, and just these are held
 begun_read : (r : List TypeInfo) (room t : ℕ) (g : Begun) (own e : List ℕ) (at u : ℕ) →

@@ -15,7 +15,7 @@ use Rattle.scale_core.specs.declared.compact.Target.TheVariants as target
 use Rattle.scale_core.specs.declared.fault.Reason.{Reason}
 use Rattle.scale_core.specs.declared.fault.Reason.TheVariants as reasons
 use Rattle.scale_core.proofs.Again.{bytes_again, compact_again}
-use Rattle.scale_core.proofs.Results.{Takes, compact_takes, compact_extends}
+use Rattle.scale_core.proofs.Results.{compact_takes, compact_extends, mapped}
 use Rattle.types_core.specs.declared.definition.Arm.{Arm}
 use Rattle.types_core.specs.declared.type_info.TypeInfo.{TypeInfo}
 use Rattle.graph_core.specs.Types.{field_types}
@@ -52,12 +52,6 @@ pub reason_reports : (e : Reason) → (e ≡ reasons.Truncated) ⊎ (e ≢ reaso
 reason_reports reasons.Truncated = inl refl
 reason_reports _ = inr (λ e. absurd cc)
 
--- a fact of what a reader takes may be weakened
-mapped : {E X : Type 0} (P Q : X → List ℕ → Type 0) (b : List ℕ) (r : Read E X) → Takes P b r →
-    ((x : X) (c : List ℕ) → P x c → Q x c) → Takes Q b r
-mapped P Q b (Ok x) h f = (h.0, h.1, f x.0 h.0 h.2)
-mapped P Q b (Err e) h f = tt
-
 -- a compact is read, or refused for good, whatever follows it
 compact_steady : (m : Target) → IsStable reasons.Truncated (compact_at m)
 compact_steady m = record {
@@ -77,11 +71,11 @@ mode_len-pos first = go (first % 4 == 0) (first % 4 == 1) (first % 4 == 2) where
   go false false false = omega arith
 
 -- where fewer bytes are there than are wanted, they are cut at their end
-short_bytes : (k : ℕ) (b : List ℕ) → length b < k → bytes_at k b ≡ Err (reasons.Truncated, [])
+pub short_bytes : (k : ℕ) (b : List ℕ) → length b < k → bytes_at k b ≡ Err (reasons.Truncated, [])
 short_bytes k b lt = rw (lt-ltb (length b) k lt) refl
 
 -- where just as many bytes are there as are wanted, all are read
-whole_bytes : (k : ℕ) (b : List ℕ) → length b ≡ k → bytes_at k b ≡ Ok (b, [])
+pub whole_bytes : (k : ℕ) (b : List ℕ) → length b ≡ k → bytes_at k b ≡ Ok (b, [])
 whole_bytes k b len = ap (bytes_at k) (sym (append-nil b)) ∙ bytes_again k b [] len
 
 -- as many bytes as are wanted are read of just these

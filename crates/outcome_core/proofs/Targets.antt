@@ -11,7 +11,8 @@ use Rattle.types_core.specs.declared.type_info.TypeInfo.{TypeInfo}
 use Rattle.graph_core.specs.Types.{shape}
 use Rattle.widths_core.specs.Layouts.{is_byte}
 use Rattle.widths_core.specs.Targets.{target_of}
-use Rattle.widths_core.specs.Classes.{is_empty, empty_within, empty_step, holds_at, is_unit}
+use Rattle.widths_core.specs.Classes.{is_empty, empty_within, empty_step, is_unit}
+use Rattle.widths_core.proofs.Ranks.{holds_at-shape}
 use Rattle.grammar_core.specs.Forms.{form_of, form_of_shape, array_form, sequence_form}
 use Rattle.grammar_core.specs.Forms.{compact_form}
 use Rattle.grammar_core.specs.declared.form.Form.TheVariants as form
@@ -54,16 +55,11 @@ over r m (Some (Def.Primitive p)) e = absurd cc
 over r m (Some (Def.Compact u)) e = (u, refl, same_target m (target_of r u.0) e)
 over r m (Some (Def.BitSequence store order)) e = absurd cc
 
--- a test holds at a position as it does of the definition there
-held_at : (r : List TypeInfo) (test : TypeDef → Bool) (t : ℕ) (d : TypeDef) → shape r t ≡ Some d →
-    holds_at r test t ≡ test d
-held_at r test t d s = ap (λ (o : Option TypeDef). elim o [ Some d ↦ test d | None ↦ false ]) s
-
 -- a compact over a type that leads to nothing takes no bytes, by some number of levels
 unit_is_empty : (r : List TypeInfo) (k t : ℕ) (u : TypeId) → shape r t ≡ Some (Def.Compact u) →
     target_of r u.0 ≡ Some target.Unit → empty_within r (suc k) t ≡ true
 unfolding empty_within
-unit_is_empty r k t u s e = held_at r (empty_step r (empty_within r k)) t (Def.Compact u) s
+unit_is_empty r k t u s e = holds_at-shape r (empty_step r (empty_within r k)) t (Def.Compact u) s
     ∙ ap is_unit e
 
 -- a compact over a type that leads to nothing is one of the types without bytes

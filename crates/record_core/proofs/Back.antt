@@ -3,11 +3,9 @@ use Rattle.std.proofs.Common.{◌≡◌, ℕ, ◌+◌, ◌-◌, ◌*◌, ◌/◌
 use Rattle.std.proofs.Common.{map}
 use Rattle.std.proofs.Common.{take, drop, refl, sym, ap, ◌∙◌, arith, append_assoc, true, false}
 use Rattle.std.proofs.Common.{length-append, slice_range}
-use Rattle.std.specs.Prelude.{ℤ, FitsSigned}
+use Rattle.std.specs.Prelude.{ℤ}
 use Rattle.std.specs.Int.{w128, cast_unsigned}
-use Rattle.std.proofs.Math.Facts.{Fits-of_z}
 use Rattle.std.proofs.Math.Seq.{take-append_seam, drop-append_seam}
-use Rattle.std.proofs.lemmas.Int.{to_z-of_z}
 use Rattle.grammar_core.specs.Cells.{Cell}
 use Rattle.grammar_core.specs.Preorder as head
 use Rattle.grammar_core.specs.Preorder.{Head, all_preorder, preorder, tree_of, tree_of-preorder}
@@ -15,9 +13,9 @@ use Rattle.grammar_core.specs.Tree as tree
 use Rattle.grammar_core.specs.Tree.{Tree, Trees, and, none}
 use Rattle.node_core.specs.Shown.{signed_from}
 use Rattle.node_core.proofs.CellsOf.{cells_preorder}
+use Rattle.node_core.proofs.Words.{signed_same}
 use Rattle.record_core.specs.Records.{RecordsAreTree, head_of, nodes_of, pool_bytes, pool_of}
 use Rattle.record_core.specs.Records.{record_of, records_from}
-use Rattle.record_core.proofs.Adds.{signed_is}
 use Rattle.record_core.proofs.Signed.{AllFit, FitsLeaf, FitsTree, tree_fits}
 
 -- a signed integer of a node fits 128 bits
@@ -60,10 +58,6 @@ between_is front s rest at e =
 halves_are : (n : ℕ) → n % 2 ^ 64 + 2 ^ 64 * (n / 2 ^ 64) ≡ n
 halves_are n = omega arith
 
--- the bits of a signed integer are the integer
-bits_are : (z : ℤ) → FitsSigned w128 z → signed_from (cast_unsigned w128 z) ≡ z
-bits_are z h = sym (signed_is (cast_unsigned w128 z) (Fits-of_z h).fits) ∙ to_z-of_z w128 z h
-
 -- a node is read back from its record, where its bytes stand in the pool
 head_back : (front rest : List ℕ) (at : ℕ) (c : Cell) → at ≡ length front → FitsHead c.head →
     head_of (front ++ (pool_bytes c.head ++ rest)) (record_of at c) ≡ c.head
@@ -77,7 +71,7 @@ head_back front rest at c e fits = by c.head fits where
   by (head.leaf (tree.unsigned n)) f =
       ap (λ (k : ℕ). head.leaf (tree.unsigned k)) (halves_are n)
   by (head.leaf (tree.signed z)) f = ap (λ (y : ℤ). head.leaf (tree.signed y))
-      (ap signed_from (halves_are (cast_unsigned w128 z)) ∙ bits_are z f)
+      (ap signed_from (halves_are (cast_unsigned w128 z)) ∙ signed_same z f)
   by (head.leaf (tree.compact n)) f =
       ap (λ (k : ℕ). head.leaf (tree.compact k)) (halves_are n)
   by (head.leaf (tree.count n)) f = refl

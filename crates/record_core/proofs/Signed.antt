@@ -11,14 +11,14 @@ use Rattle.scale_core.specs.Laws.{FitsSigned as FitsBytes}
 use Rattle.scale_core.specs.Number.{AreBytes, signed_number}
 use Rattle.scale_core.specs.declared.compact.Target.{Target}
 use Rattle.scale_core.proofs.Numbers.{signed_is_spelled}
-use Rattle.types_core.specs.Kinds.{kind_of, width_bytes}
+use Rattle.types_core.specs.Kinds.{kind_of}
 use Rattle.types_core.specs.declared.kind.IntegerWidth.{IntegerWidth}
-use Rattle.types_core.specs.declared.kind.IntegerWidth.TheVariants as width
 use Rattle.types_core.specs.declared.kind.PrimitiveKind.{PrimitiveKind}
 use Rattle.types_core.specs.declared.kind.PrimitiveKind.TheVariants as K
 use Rattle.types_core.specs.declared.definition.TypeDef.{TypeDef}
 use Rattle.types_core.specs.declared.definition.TypeDef.TheVariants as Def
 use Rattle.types_core.specs.declared.type_info.TypeInfo.{TypeInfo}
+use Rattle.types_core.proofs.Widths.{width_most}
 use Rattle.graph_core.specs.Types.{shape, field_types}
 use Rattle.widths_core.specs.Classes.{is_empty}
 use Rattle.widths_core.specs.Targets.{target_of}
@@ -51,17 +51,9 @@ abbrev IsNarrow : Layout → Type 0
 IsNarrow (layout.plain (layout.signed k)) = k ≤ 16
 IsNarrow _ = Unit {0}
 
--- the widest integer of these has sixteen bytes
-narrow_width : (w : IntegerWidth) → width_bytes w ≤ 16
-narrow_width width.Bits8 = omega arith
-narrow_width width.Bits16 = omega arith
-narrow_width width.Bits32 = omega arith
-narrow_width width.Bits64 = omega arith
-narrow_width width.Bits128 = omega arith
-
 -- the same of a primitive's layout
 narrow_kind : (k : PrimitiveKind) → IsNarrow (kind_layout k)
-narrow_kind (K.Signed w) = narrow_width w
+narrow_kind (K.Signed w) = width_most w
 narrow_kind _ = tt
 
 -- a sequence has no layout of a signed integer

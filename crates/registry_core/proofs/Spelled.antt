@@ -15,6 +15,7 @@ use Rattle.scale_core.specs.declared.fault.Reason.{Reason}
 use Rattle.scale_core.proofs.Numbers.{rest_bytes, front_bytes, le_bytes-number, number-bound}
 use Rattle.scale_core.proofs.Results.{Takes, cond_takes, then_takes, compact_takes, text_takes}
 use Rattle.scale_core.proofs.Results.{done_is}
+use Rattle.scale_core.proofs.Results.{mapped}
 use Rattle.types_core.specs.declared.definition.TypeDef.{TypeDef}
 use Rattle.types_core.specs.declared.definition.TypeDef.TheVariants as def
 use Rattle.registry_core.specs.declared.fault.RegistryReason.{RegistryReason}
@@ -54,12 +55,6 @@ pub lifted_takes : {X : Type 0} (P : X → List ℕ → Type 0) (b : List ℕ) (
     Takes P b r → Takes P b (lifted r)
 lifted_takes P b (Ok x) h = h
 lifted_takes P b (Err e) h = tt
-
--- what was taken meets another property, where the one that is known gives it
-pub mapped : {E X : Type 0} (P Q : X → List ℕ → Type 0) (b : List ℕ) (r : Read E X) → Takes P b r →
-    ((x : X) (c : List ℕ) → P x c → Q x c) → Takes Q b r
-mapped P Q b (Ok x) h f = (h.0, h.1, f x.0 h.0 h.2)
-mapped P Q b (Err e) h f = tt
 
 -- a length that is read was spelled so
 pub length_good : Good (λ n. n < 2 ^ 32) compact length_at

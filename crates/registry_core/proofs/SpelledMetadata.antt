@@ -6,7 +6,7 @@ use Rattle.std.specs.Prelude.{◌==◌}
 use Rattle.std.proofs.lemmas.Bool.{eqb-true}
 use Rattle.std.proofs.lemmas.List.{append-nil}
 use Rattle.scale_core.specs.Number.{AreBytes}
-use Rattle.scale_core.proofs.Results.{Takes, cond_takes}
+use Rattle.scale_core.proofs.Results.{Takes, cond_takes, mapped}
 use Rattle.registry_core.specs.declared.fault.RegistryReason.TheVariants as registry
 use Rattle.types_core.specs.Fits.{FitsRegistry}
 use Rattle.registry_core.specs.declared.version.Version.{Version}
@@ -17,7 +17,7 @@ use Rattle.registry_core.specs.Reading.{registry_at}
 use Rattle.registry_core.specs.Reading.{letter_at, letters_at, named, version_at}
 use Rattle.registry_core.specs.Reading.{prefix_at, metadata_at}
 use Rattle.registry_core.specs.Laws.{FitsMetadata, ReadIsSpelled, metadata_of}
-use Rattle.registry_core.proofs.Spelled.{Spelled, bind_in, mapped, registry_takes, spelled_of}
+use Rattle.registry_core.proofs.Spelled.{Spelled, bind_in, registry_takes, spelled_of}
 
 -- a letter that is read stood on the front
 letter_takes : (letter : ℕ) (b : List ℕ) →

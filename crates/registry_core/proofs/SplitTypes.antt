@@ -9,6 +9,7 @@ use Rattle.std.proofs.lemmas.Bool.{eqb-true, eq-eqb}
 use Rattle.scale_core.specs.Number.{AreBytes}
 use Rattle.scale_core.specs.Compact.{compact}
 use Rattle.scale_core.specs.Read.{Read, ◌>>=◌}
+use Rattle.scale_core.proofs.Results.{mapped}
 use Rattle.registry_core.specs.declared.fault.RegistryReason.{RegistryReason}
 use Rattle.registry_core.specs.declared.fault.RegistryReason.TheVariants as registry
 use Rattle.types_core.specs.declared.type_info.TypeInfo.{TypeInfo}
@@ -22,7 +23,7 @@ use Rattle.registry_core.specs.Reading.{metadata_at}
 use Rattle.registry_core.specs.Splits.{Refusals, Fails, Then, EndsBefore, IsByte}
 use Rattle.registry_core.specs.Splits.{PlacedFails, NextType, LetterFails, VersionFails, AreFaults}
 use Rattle.registry_core.specs.Splits.{RegistryFaults}
-use Rattle.registry_core.proofs.Spelled.{Spelled, mapped, type_good}
+use Rattle.registry_core.proofs.Spelled.{Spelled, type_good}
 use Rattle.registry_core.proofs.SpelledMetadata.{letters_take}
 use Rattle.registry_core.proofs.Again.{type_is}
 use Rattle.registry_core.proofs.Splits.{Says, Piece, piece, length_piece, says_fails, mapped_says}

@@ -15,7 +15,7 @@ use Rattle.scale_core.specs.declared.compact.Target.TheVariants.{U32 as u32_targ
 use Rattle.scale_core.specs.declared.fault.Reason.{Reason}
 use Rattle.scale_core.specs.declared.fault.Reason.TheVariants as scale
 use Rattle.scale_core.proofs.Numbers.{rest_bytes}
-use Rattle.scale_core.proofs.Results.{Takes}
+use Rattle.scale_core.proofs.Results.{Takes, judged_front}
 use Rattle.registry_core.specs.declared.fault.RegistryReason.{RegistryReason}
 use Rattle.registry_core.specs.Reading.{Reader, lifted, length_at, repeated, sequence_at, string_at}
 use Rattle.registry_core.specs.Reading.{option_at, byte_at, named}
@@ -177,12 +177,8 @@ lifted_then : {X Y : Type 0} (r : Read Reason X) (f : X × List ℕ → Read Rea
 lifted_then (Ok x) f = refl
 lifted_then (Err e) f = refl
 
--- the bytes that a text should have
-abbrev judged : List ℕ → List ℕ × List ℕ → Read Reason (List ℕ)
-judged b x = cond (is_utf8 x.0) (Ok x) (Err (scale.BadUtf8, drop (utf8_valid_len x.0) b))
-
 -- n bytes are refused as a text where they end too soon, or where they are no text
-text_says : (n : ℕ) (b : List ℕ) → Says (lifted (bytes_at n b >>= judged b))
+text_says : (n : ℕ) (b : List ℕ) → Says (lifted (bytes_at n b >>= judged_front b))
     (λ b why left. EndsBefore n b why left ⊎ IsNoText n b why left) b
 text_says n b why left = elim (cases_lt (length b) n) [
   | inl lt ↦ rw (lt-ltb (length b) n lt) (
@@ -234,11 +230,11 @@ pub string_faults : AreFaults string_at (Then (λ n. n < 2 ^ 32) compact length_
     (λ n b why left. EndsBefore n b why left ⊎ IsNoText n b why left))
 unfolding text_at
 string_faults b why left bytes =
-    let same : string_at b ≡ (length_at b >>= λ n. lifted (bytes_at n.0 n.1 >>= judged n.1)) =
-    lifted_then (compact_at u32_target b) (λ n. bytes_at n.0 n.1 >>= judged n.1) in
+    let same : string_at b ≡ (length_at b >>= λ n. lifted (bytes_at n.0 n.1 >>= judged_front n.1)) =
+    lifted_then (compact_at u32_target b) (λ n. bytes_at n.0 n.1 >>= judged_front n.1) in
     rw same
     (then_says (λ n. n < 2 ^ 32) compact length_at length_piece
-    (λ n. lifted (bytes_at n.0 n.1 >>= judged n.1))
+    (λ n. lifted (bytes_at n.0 n.1 >>= judged_front n.1))
     (λ n b why left. EndsBefore n b why left ⊎ IsNoText n b why left)
     (λ n c small more. text_says n c) b bytes why left)
 

@@ -1,5 +1,5 @@
 -- What reading a whole registry answers, from what reading it as a part gave.
-use Rattle.std.proofs.Common.{◌≡◌, ℕ, suc, ◌-◌, ◌<◌, ◌≤◌, List, [], ◌∷◌, ◌++◌, length, get_or, take}
+use Rattle.std.proofs.Common.{◌≡◌, ℕ, ◌-◌, ◌≤◌, List, ◌++◌, length, take}
 use Rattle.std.proofs.Common.{drop, Ok, refl, sym, ap, ap₂, ◌∙◌, arith, inl, inr, length-append}
 use Rattle.std.proofs.lemmas.List.{take_at}
 use Rattle.scale_core.specs.Number.{AreBytes}
@@ -21,11 +21,6 @@ use Rattle.registry_core.proofs.SpelledMetadata.{metadata_is_spelled}
 use Rattle.registry_core.proofs.Inside.{Inside}
 use Rattle.registry_core.proofs.Steady.{IsReported, IsSteady, registry_steady}
 use Rattle.registry_core.proofs.SteadyMetadata.{metadata_steady}
-
--- a list is of bytes where each place of it is below 256
-pub are_bytes : (b : List ℕ) → ((i : ℕ) → get_or b i 0 < 256) → AreBytes b
-are_bytes [] h = tt
-are_bytes (x ∷ b) h = (h 0, are_bytes b (λ i. h (suc i)))
 
 -- what may be spelled, the way to spell it, and the reading of it
 pub record IsCodec {X : Type 0} (Fits : X → Type 0) (spell : X → List ℕ) (part : Reader X) :

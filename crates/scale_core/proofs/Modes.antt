@@ -11,7 +11,7 @@ use Rattle.scale_core.specs.Compact.{compact, bytes_needed, big_bytes}
 use Rattle.scale_core.specs.Number.{AreBytes, number, le_bytes}
 use Rattle.scale_core.specs.Read.{mode_len, mode_number}
 use Rattle.scale_core.proofs.Again.{form_of}
-use Rattle.scale_core.proofs.Numbers.{length-le_bytes, number_one, bytes_needed-le}
+use Rattle.scale_core.proofs.Numbers.{length-le_bytes, number_one, bytes_needed-le, le_bytes-are}
 use Rattle.scale_core.proofs.Numbers.{bytes_needed-enough}
 
 -- 2 to eight times a count of bytes is 256 to that count
@@ -104,11 +104,6 @@ big_bytes-bits n r big ge h small =
 
 -- ---- which mode is the shortest
 
--- the bytes of a number, lowest first, are bytes
-pub are_le_bytes : (k n : ℕ) → AreBytes (le_bytes k n)
-are_le_bytes zero n = tt
-are_le_bytes (suc k) n = (omega arith, are_le_bytes k (n / 256))
-
 -- a number is never said to need more bytes than it may have
 bytes_needed-bound : (k n : ℕ) → bytes_needed k n ≤ k
 bytes_needed-bound zero n = omega arith
@@ -123,11 +118,11 @@ unfolding compact
 are_compact n = elim (cases_lt n 64) [
   | inl lt ↦ rw (lt-ltb n 64 lt) (omega arith, tt)
   | inr ge ↦ rw (le-ltb n 64 ge) (elim (cases_lt n (2 ^ 14)) [
-    | inl lt ↦ rw (lt-ltb n (2 ^ 14) lt) (are_le_bytes 2 (4 * n + 1))
+    | inl lt ↦ rw (lt-ltb n (2 ^ 14) lt) (le_bytes-are 2 (4 * n + 1))
     | inr ge ↦ rw (le-ltb n (2 ^ 14) ge) (elim (cases_lt n (2 ^ 30)) [
-      | inl lt ↦ rw (lt-ltb n (2 ^ 30) lt) (are_le_bytes 4 (4 * n + 2))
+      | inl lt ↦ rw (lt-ltb n (2 ^ 30) lt) (le_bytes-are 4 (4 * n + 2))
       | inr ge ↦ rw (le-ltb n (2 ^ 30) ge)
-          (omega (arith, bytes_needed-bound 16 n), are_le_bytes (big_bytes n) n)
+          (omega (arith, bytes_needed-bound 16 n), le_bytes-are (big_bytes n) n)
     ])
   ])
 ]

@@ -87,7 +87,7 @@ neg-pos (suc x) h = ap negsuc (omega arith)
 -- ---- the laws of fixed widths
 
 -- the bytes of a number are bytes
-le_bytes-are : (k n : ℕ) → AreBytes (le_bytes k n)
+pub le_bytes-are : (k n : ℕ) → AreBytes (le_bytes k n)
 le_bytes-are zero n = tt
 le_bytes-are (suc k) n = (omega arith, le_bytes-are k (n / 256))
 

@@ -165,11 +165,6 @@ pub one_fits : (m : Target) (n : ℕ) → m ≢ TUnit → n < 64 → n < 256 ^ t
 one_fits TUnit n ne h = absurd (ne refl)
 one_fits _ n ne h = omega (arith, h)
 
--- the spelling of a number below 64 has one byte
-one_long : (n : ℕ) → n < 64 → length (compact n) ≡ 1
-unfolding compact
-one_long n h = rw (lt-ltb n 64 h) refl
-
 -- a first byte with the mark 0 names one byte
 one_form : (first : ℕ) → first % 4 ≡ 0 → mode_len first ≡ 1
 one_form first h = rw h refl
@@ -195,7 +190,7 @@ integer_at-one m bytes first ne are is h byte =
     let judged = integer_at-judged m bytes first (first / 4) 1 are is (not_long m first h)
     (sym (one_form first h)) some value (omega (arith, small)) in
     judged ∙ rw (
-      one_long (first / 4) small,
+      length-compact-one (first / 4) small,
       lt-ltb (first / 4) (256 ^ target_bytes m)
           (one_fits m (first / 4) ne small),
     ) refl

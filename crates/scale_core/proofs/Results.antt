@@ -79,6 +79,12 @@ unfolding compact_at
 compact_takes TUnit b = ([], refl, (refl, refl))
 compact_takes m b = integer_takes m b
 
+-- what was taken meets another property, where the one that is known gives it
+pub mapped : {E X : Type 0} (P Q : X → List ℕ → Type 0) (b : List ℕ) (r : Read E X) → Takes P b r →
+    ((x : X) (c : List ℕ) → P x c → Q x c) → Takes Q b r
+mapped P Q b (Ok x) h f = (h.0, h.1, f x.0 h.0 h.2)
+mapped P Q b (Err e) h f = tt
+
 -- what is read after c
 pub then_takes : {E Y : Type 0} (Q : Y → List ℕ → Type 0) (b c rest : List ℕ) (r : Read E Y) →
     b ≡ c ++ rest → Takes (λ y d. Q y (c ++ d)) rest r → Takes Q b r
@@ -170,7 +176,7 @@ text_takes b = bind_takes (IsCompact U32) IsText b (compact_at U32 b) _ (compact
     (λ valid. let len : length s.0 ≡ n.0 = rw (← at.0) at.1 in
     ([], refl, (c, rw len is, valid, rw (append-nil, at.0) refl))) (λ e. tt)))
 
-abbrev judged_front : List ℕ → List ℕ × List ℕ → Read Reason (List ℕ)
+abbrev pub judged_front : List ℕ → List ℕ × List ℕ → Read Reason (List ℕ)
 judged_front from s = cond (is_utf8 s.0) (Ok s) (Err (BadUtf8, drop (utf8_valid_len s.0) from))
 
 -- the bytes of a text are judged alike in a longer input, where they were not cut

@@ -30,9 +30,9 @@ use Rattle.value_core.specs.Walked.{Closes, OpenPart, Walked, advanced, advanced
 use Rattle.value_core.specs.Walked.{next_of, next_type, opened}
 use Rattle.value_core.proofs.Adding.{kept_snoc, open_added, open_shown}
 use Rattle.value_core.proofs.Ahead.{type_at}
-use Rattle.value_core.proofs.Begun.{is_begun}
+use Rattle.value_core.proofs.Begun.{is_begun, settled_short}
 use Rattle.value_core.proofs.Closing.{advanced_length, closing_settles, open_paid, same}
-use Rattle.value_core.proofs.Closing.{settled_shorter, settled_step, with_size}
+use Rattle.value_core.proofs.Closing.{settled_step, with_size}
 use Rattle.value_core.proofs.Leaves.{leaf_appended}
 use Rattle.value_core.proofs.NextOpen.{laid_next}
 
@@ -81,7 +81,7 @@ closings_at w place u turns p e none =
     omega (
       arith,
       ap length (settled_step place p (advanced w).frames (some_open w u e) none),
-      settled_shorter (advanced w).frames,
+      settled_short (advanced w).frames,
     )
 
 -- a value with the next node, of which it is known where the walk goes on, and in which turn

@@ -139,7 +139,7 @@ counts g hs h = rw h (counted g)
 -- ---- what the walk says
 
 -- where only whole nodes are closed, a type is next in the innermost that is open
-settled_short : (fs : List OpenPart) → length (settled_in fs) ≤ length fs
+pub settled_short : (fs : List OpenPart) → length (settled_in fs) ≤ length fs
 settled_short [] = omega arith
 settled_short (f ∷ []) = omega arith
 settled_short (f ∷ g ∷ fs) = by (first_of f.left) refl (settled_short (g ∷ fs)) where

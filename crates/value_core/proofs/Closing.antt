@@ -1,5 +1,5 @@
 -- The innermost open node gets its size.
-use Rattle.std.proofs.Common.{Option, ◌≡◌, ℕ, zero, suc, ◌+◌, ◌-◌, ◌<◌, ◌≤◌, List, [], ◌∷◌, ◌++◌}
+use Rattle.std.proofs.Common.{Option, ◌≡◌, ℕ, zero, suc, ◌+◌, ◌-◌, ◌<◌, List, [], ◌∷◌, ◌++◌}
 use Rattle.std.proofs.Common.{length, Some, None, refl, sym, ap, subst, ◌∙◌, arith, inl, inr}
 use Rattle.std.proofs.Common.{length-append}
 use Rattle.std.specs.Prelude.{slice_get, slice_set}
@@ -20,6 +20,7 @@ use Rattle.node_core.specs.declared.node.Content.{Content}
 use Rattle.node_core.specs.declared.node.Content.TheVariants as content
 use Rattle.node_core.specs.declared.node.Node.{Node}
 use Rattle.value_core.proofs.Spines.{Closed, is_cons, node_closed}
+use Rattle.value_core.proofs.Begun.{settled_short}
 
 abbrev pub with_size : Node → ℕ → Node
 with_size n k =
@@ -179,10 +180,10 @@ closing_settles old new ns n k place g e c = record {
 }
 
 -- what is settled stays so
-again : (fs : List OpenPart) → settled_in (settled_in fs) ≡ settled_in fs
-again [] = refl
-again (f ∷ []) = refl
-again (f ∷ g ∷ fs) = by (first_of f.left) refl (again (g ∷ fs)) where
+pub settled_twice : (fs : List OpenPart) → settled_in (settled_in fs) ≡ settled_in fs
+settled_twice [] = refl
+settled_twice (f ∷ []) = refl
+settled_twice (f ∷ g ∷ fs) = by (first_of f.left) refl (settled_twice (g ∷ fs)) where
   by : (x : Option ℕ) → first_of f.left ≡ x →
       settled_in (settled_in (g ∷ fs)) ≡ settled_in (g ∷ fs) →
       settled_in (settled_in (f ∷ g ∷ fs)) ≡ settled_in (f ∷ g ∷ fs)
@@ -193,7 +194,7 @@ again (f ∷ g ∷ fs) = by (first_of f.left) refl (again (g ∷ fs)) where
 
 -- once all that is whole is closed, nothing is left that is whole and open
 pub settled_again : (w : Walked) → IsSettled (settled_walk w)
-settled_again w = rw (again w.frames) refl
+settled_again w = rw (settled_twice w.frames) refl
 
 -- where no run shows as open, none is open
 pub none_open : (pool : List ℕ) (text : Option OpenRun) → pieces_shown pool text ≡ None →
@@ -212,23 +213,11 @@ stays_exact w v old new before after (Some o) none h grown = absurd cc
 
 -- ---- turns
 
--- closing nodes opens none
-pub settled_shorter : (fs : List OpenPart) → length (settled_in fs) ≤ length fs
-settled_shorter [] = omega arith
-settled_shorter (f ∷ []) = omega arith
-settled_shorter (f ∷ g ∷ fs) = by (first_of f.left) refl (settled_shorter (g ∷ fs)) where
-  by : (x : Option ℕ) → first_of f.left ≡ x → length (settled_in (g ∷ fs)) ≤ length (g ∷ fs) →
-      length (settled_in (f ∷ g ∷ fs)) ≤ length (f ∷ g ∷ fs)
-  by (Some u) e h = let stays : settled_in (f ∷ g ∷ fs) ≡ f ∷ g ∷ fs = rw (e, settled_in) refl in
-      omega (arith, ap length stays)
-  by None e h = let less : settled_in (f ∷ g ∷ fs) ≡ settled_in (g ∷ fs) =
-      rw (e, settled_in) refl in omega (arith, ap length less, h)
-
 -- there is a turn for each node that closes
 pub turns_are : (w v : Walked) (before after : ℕ) → v ≡ settled_walk w →
     after + length v.frames ≡ before + length w.frames → after ≡ before + closings w.frames
 turns_are w v before after is e =
-    omega (arith, e, ap (λ (x : Walked). length x.frames) is, settled_shorter w.frames)
+    omega (arith, e, ap (λ (x : Walked). length x.frames) is, settled_short w.frames)
 
 -- closing nodes leaves their number
 settled_length : (old new : Walked) (before after : List Node) → Settles old before new after →
@@ -246,7 +235,7 @@ settled_paid old new before after turns paid h is e p =
       e,
       p,
       ap (λ (x : Walked). length x.frames) is,
-      settled_shorter old.frames,
+      settled_short old.frames,
       settled_length old new before after h,
     )
 

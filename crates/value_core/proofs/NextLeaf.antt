@@ -9,8 +9,8 @@ use Rattle.scale_core.specs.Number.{bool_byte, is_scalar}
 use Rattle.scale_core.specs.Compact.{IsCompact, compact, target_bytes}
 use Rattle.scale_core.specs.declared.compact.Target.{Target}
 use Rattle.scale_core.specs.declared.compact.Target.TheVariants as target
-use Rattle.scale_core.proofs.Numbers.{length-le_bytes, number-le_bytes, both_bytes}
-use Rattle.scale_core.proofs.Modes.{are_le_bytes, are_compact}
+use Rattle.scale_core.proofs.Numbers.{length-le_bytes, number-le_bytes, both_bytes, le_bytes-are}
+use Rattle.scale_core.proofs.Modes.{are_compact}
 use Rattle.types_core.specs.Kinds.{kind_of, width_bytes}
 use Rattle.types_core.specs.declared.kind.IntegerWidth.{IntegerWidth}
 use Rattle.types_core.specs.declared.kind.Signedness.{Signedness}
@@ -92,7 +92,7 @@ pub unsigned_next : (w : Walked) (p : Primitive) (v : IntegerWidth) (n : ℕ) �
 unsigned_next w p v n e f h =
     let k = width_bytes v in
     leaf_next w (form.Primitive p) (layout.unsigned k) (tree.unsigned n) (le_bytes k n) e
-    (λ t g. primitive_has_layout w.types t p g ∙ ap kind_layout f) (are_le_bytes k n) (
+    (λ t g. primitive_has_layout w.types t p g ∙ ap kind_layout f) (le_bytes-are k n) (
       length-le_bytes k n,
       ap tree.unsigned
           (sym (number-le_bytes k n (fits_width (256 ^ k) n (omega (arith, width_numbers v)) h))),
@@ -160,7 +160,7 @@ pub char_next : (w : Walked) (c : ℕ) → next_of w ≡ next.Wants (form.Primit
 char_next w c e f h =
     let spelled : number (le_bytes 4 c) ≡ c = number-le_bytes 4 c h in
     leaf_next w (form.Primitive P.Char) layout.char (tree.char c) (le_bytes 4 c) e
-    (λ t g. primitive_has_layout w.types t P.Char g) (are_le_bytes 4 c)
+    (λ t g. primitive_has_layout w.types t P.Char g) (le_bytes-are 4 c)
     (length-le_bytes 4 c, ap tree.char (sym spelled), rw (spelled, f) refl)
 
 -- ---- signed integers
@@ -198,8 +198,8 @@ signed_long k (negsuc m) = length-le_bytes k (256 ^ k - suc m)
 
 -- what spells an integer in two's complement is made of bytes
 are_signed_bytes : (k : ℕ) (z : ℤ) → AreBytes (signed_bytes k z)
-are_signed_bytes k (pos n) = are_le_bytes k n
-are_signed_bytes k (negsuc m) = are_le_bytes k (256 ^ k - suc m)
+are_signed_bytes k (pos n) = le_bytes-are k n
+are_signed_bytes k (negsuc m) = le_bytes-are k (256 ^ k - suc m)
 
 -- where a signed integer is next, each number within its width is a value for it
 pub signed_next : (w : Walked) (p : Primitive) (v : IntegerWidth) (z : ℤ) →

@@ -24,7 +24,7 @@ use Rattle.graph_core.specs.References.{references, AreKnown, IsChecked}
 use Rattle.widths_core.specs.Targets.{nowhere, leads_shape, leads_members, target_from}
 use Rattle.widths_core.specs.Targets.{target_within, target_of}
 use Rattle.widths_core.specs.Classes.{holds_at, finite_step, finite_within, is_finite, class_of}
-use Rattle.widths_core.specs.ClassTables.{known_class, known_target, has_value, class_of_compact}
+use Rattle.widths_core.specs.ClassTables.{known_class, known_target, class_of_compact}
 use Rattle.widths_core.specs.ClassTables.{ReportsClasses, ReportsTargets}
 use Rattle.graph_core.specs.Counts.{times}
 use Rattle.widths_core.specs.Rules.{Rule, rule, rules, rules_of, rules_from, arm_rules}
@@ -44,6 +44,7 @@ use Rattle.widths_core.proofs.Ranks.{Below, finite_grows, or_parts}
 use Rattle.widths_core.proofs.Stable.{has_value-class_of}
 use Rattle.widths_core.proofs.RuleRight.{rule_right, shape-bound}
 use Rattle.widths_core.proofs.Waiting.{waiting_start, waiting-zero, numbers-length, parts_all}
+use Rattle.widths_core.proofs.Settles.{no_value}
 
 -- ---- before anything has settled
 
@@ -349,12 +350,6 @@ bad r a b s n done h = record { at = λ k lt e unset. go k lt e unset } where
 
 -- ---- where nothing more settles
 
--- a class by which there is no value is NoValue
-no_value : (c : Class) → has_value c ≡ false → c ≡ class.NoValue
-no_value class.NoValue e = refl
-no_value class.Empty e = absurd cc
-no_value class.Sized e = absurd cc
-
 -- when nothing more settles and each compact has, the tables report all classes and targets
 pub classes_reported : (r : List TypeInfo) (a b : Graph) (s n : Progress) (done : ℕ) →
     PropagatesAll r a b s n done → AreCompactsSettled r n → ReportsClasses r n.classes
@@ -407,7 +402,7 @@ types_linked_checked r cs d h =
     checked_by (length r) r known'
 
 -- a number that is 1 where a test holds and else 0 is at most 1
-few : (b : Bool) (n : ℕ) → n ≡ cond b 1 0 → n ≤ 1
+pub few : (b : Bool) (n : ℕ) → n ≡ cond b 1 0 → n ≤ 1
 few true n e = omega (arith, e)
 few false n e = omega (arith, e)
 

@@ -13,12 +13,7 @@ use Rattle.graph_core.specs.Types.{shape}
 use Rattle.widths_core.specs.Rows.{IsPaired, Keeps}
 use Rattle.widths_core.specs.Steps.{IsRow, IsDraft}
 use Rattle.widths_core.proofs.Kept.{draft_kept}
-
--- a position at which a definition stands is below the number of types
-pub shape_within : (r : List TypeInfo) (i : ℕ) (d : TypeDef) → shape r i ≡ Some d → i < length r
-shape_within [] i d e = absurd cc
-shape_within (x ∷ r) zero d e = omega arith
-shape_within (x ∷ r) (suc i) d e = let below = shape_within r i d e in omega (arith, below)
+use Rattle.widths_core.proofs.RuleRight.{shape-bound}
 
 -- a draft that is put at the end leaves the others where they are
 get_left : (xs : List TypeStep) (y : TypeStep) (t : ℕ) → t < length xs →
@@ -51,7 +46,7 @@ pub drafts_more : (r : List TypeInfo) (xs ys zs : List ℕ) (a b : Rows) (i : �
 drafts_more r xs ys zs a b i drafts d s e read paired k new h = record {
   paired = paired;
   count = length_push drafts s ∙ ap (λ (n : ℕ). n + 1) h.count;
-  within = let below = shape_within r i d e in omega (arith, below);
+  within = let below = shape-bound r i d e in omega (arith, below);
   own = own;
 } where
   own : (t : ℕ) (d' : TypeDef) (s' : TypeStep) → shape r t ≡ Some d' →

@@ -3,7 +3,7 @@ use Rattle.std.proofs.Common.{◌≡◌, ◌≢◌, ℕ, ◌+◌, ◌<◌, Bool,
 use Rattle.std.proofs.Common.{Some, refl, sym, ap, subst, ◌∙◌, ◌⊎◌, arith, inl, inr}
 use Rattle.std.specs.Prelude.{◌==◌, ◌&&◌, ◌||◌, slice_get}
 use Rattle.std.specs.List.{list_any}
-use Rattle.std.proofs.lemmas.Bool.{eqb-true, eq-eqb, cases_eq}
+use Rattle.std.proofs.lemmas.Bool.{eqb-true, eq-eqb, cases_eq, ne_eqb}
 use Rattle.std.proofs.lemmas.List.{append-nil, length-set, get_or-set_same, get_or-set_other}
 use Rattle.types_core.specs.declared.definition.TypeDef.{TypeDef}
 use Rattle.types_core.specs.declared.type_info.TypeInfo.{TypeInfo}
@@ -30,7 +30,7 @@ use Rattle.widths_core.proofs.StepsSoFar.{written_same, written_other, written-l
 use Rattle.widths_core.proofs.StepsSoFar.{told_none, tells_step}
 use Rattle.widths_core.specs.Propagation.{Follows}
 use Rattle.widths_core.proofs.Settles.{completes_to}
-use Rattle.widths_core.proofs.Waiting.{differ, times-other, waiting-propagated, numbers-length}
+use Rattle.widths_core.proofs.Waiting.{times-other, waiting-propagated, numbers-length, and_false}
 use Rattle.widths_core.proofs.Waiting.{numbers-within, parts_any}
 
 -- each reference of a registry is a part of one of its rules
@@ -96,11 +96,6 @@ only_part r e u lt one =
       go true p q = sym (eqb-true u (to_at r e) p)
       go false p q = absurd cc
 
--- a test that is joined to one that fails fails
-and_false : (b : Bool) → (b && false) ≡ false
-and_false true = refl
-and_false false = refl
-
 -- steps of other types than the owner of a rule are not told by its part, nor are those of other
 -- rules than that of a sequence's element
 told_other : (r : List TypeInfo) (propagated : List ℕ) (e t : ℕ) →
@@ -150,7 +145,7 @@ counted_consistent r propagated s e f byte h lt none settled is byte_is = record
   step t d b kind_is (inr other) k shape_is =
       let no : (((rule_at r (rule_number r e)).owner == t)
       && tells (rule_at r (rule_number r e)).kind) ≡ false =
-      rw (differ (rule_at r (rule_number r e)).owner t (λ same. other (sym same))) refl in (
+      rw (ne_eqb (rule_at r (rule_number r e)).owner t (λ same. other (sym same))) refl in (
         k.0,
         k.1,
         rw (told_other r propagated e t no)
@@ -233,7 +228,7 @@ counted_consistent r propagated s e f byte h lt none settled is byte_is = record
       ))
   left k (inr other) =
       let no : ◌≡◌ {A = ℕ} (cond (rule_number r e == k) 1 0) 0 =
-      rw (differ (rule_number r e) k (λ i. other (sym i))) refl in
+      rw (ne_eqb (rule_number r e) k (λ i. other (sym i))) refl in
       rw (counter_other s (rule_number r e) k
       (counter_after (counter_at s (rule_number r e)) f.class) f.class byte
       other) (omega (arith, h.left k, propagated_left r propagated e k lt none, no))
@@ -261,7 +256,7 @@ counted_consistent r propagated s e f byte h lt none settled is byte_is = record
   sized k (inr other) = rw (
     counter_other s (rule_number r e) k
         (counter_after (counter_at s (rule_number r e)) f.class) f.class byte other,
-    differ (rule_number r e) k (λ i. other (sym i)),
+    ne_eqb (rule_number r e) k (λ i. other (sym i)),
   ) (h.sized k)
 
   known : (x : ℕ) → (e ≡ x) ⊎ (e ≢ x) → 0 < times x (e ∷ propagated) →

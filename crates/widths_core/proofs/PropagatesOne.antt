@@ -3,7 +3,7 @@ use Rattle.std.proofs.Common.{◌≡◌, ◌≢◌, ℕ, zero, suc, ◌+◌, ◌
 use Rattle.std.proofs.Common.{List, [], ◌∷◌, ◌++◌, length, get_or, take, reverse, Some, refl, sym}
 use Rattle.std.proofs.Common.{ap, subst, ◌∙◌, ◌⊎◌, arith, inl, inr}
 use Rattle.std.specs.Prelude.{◌==◌, slice_get}
-use Rattle.std.proofs.lemmas.Bool.{eq-eqb, cases_lt, cases_eq}
+use Rattle.std.proofs.lemmas.Bool.{eq-eqb, cases_lt, cases_eq, ne_eqb}
 use Rattle.std.proofs.lemmas.List.{take-append-le, take_more, length-append, get_or_past}
 use Rattle.types_core.specs.declared.type_info.TypeInfo.{TypeInfo}
 use Rattle.widths_core.specs.declared.class.Class.TheVariants as class
@@ -22,7 +22,7 @@ use Rattle.widths_core.specs.Propagation.{Follows, Lists, IsUpToDate, IsPending,
 use Rattle.widths_core.specs.Propagation.{IsPropagatedTo}
 use Rattle.widths_core.proofs.RuleRight.{rule_right}
 use Rattle.widths_core.proofs.Settles.{follows_same, follows_on}
-use Rattle.widths_core.proofs.Waiting.{differ, times-same, times-other, times-append}
+use Rattle.widths_core.proofs.Waiting.{times-same, times-other, times-append}
 use Rattle.graph_core.proofs.Linked.{linked_kept}
 use Rattle.graph_core.specs.Types.{shape}
 use Rattle.widths_core.specs.Completing.{is_byte_step, step_at}
@@ -31,6 +31,7 @@ use Rattle.widths_core.specs.Steps.{references_of, IsRow}
 use Rattle.widths_core.proofs.StepReads.{shape_some}
 use Rattle.widths_core.proofs.StepsSoFar.{byte_so_far, step_is}
 use Rattle.widths_core.proofs.PartSettles.{SettlesPart, settles_part, number-lt, left_some}
+use Rattle.widths_core.proofs.Complete.{few}
 
 -- those from the end of the list on were propagated; reference at - 1 is next, where at is not 0
 pub record PropagatesSo (r : List TypeInfo) (a b : Graph) (s n : Progress) (t : ℕ) (f : Found)
@@ -252,11 +253,6 @@ settled_if : (b : Bool) (n : ℕ) → n ≡ cond b 1 0 → 0 < n → b ≡ true
 settled_if true n e lt = refl
 settled_if false n e lt = absurd (omega (arith, e, lt))
 
--- a number that is 1 where a test holds and else 0 is at most 1
-at_most_one : (b : Bool) (n : ℕ) → n ≡ cond b 1 0 → n ≤ 1
-at_most_one true n e = omega (arith, e)
-at_most_one false n e = omega (arith, e)
-
 -- the next type in the order of settling has settled, and no reference to it was propagated
 pub pending_is : (r : List TypeInfo) (d : Graph) (s : Progress) (done : ℕ) →
     IsPropagatedTo r d s done → done < length s.settled → IsPending r d s (get_or s.settled done 0)
@@ -267,7 +263,7 @@ pending_is r d s done h lt =
     record {
       steady = h.steady;
       settled = settled_if (has_settled s t) (times t s.settled) queue (omega (arith, more));
-      fresh = λ e small to. let one = at_most_one (has_settled s t) (times t s.settled) queue in
+      fresh = λ e small to. let one = few (has_settled s t) (times t s.settled) queue in
           h.propagated e small ∙ ap (λ (u : ℕ). times u (take done s.settled)) to
           ∙ omega (arith, more, one);
     }
@@ -295,7 +291,7 @@ so_far_more r a b c s n m done h lt k =
       swap : (x y : ℕ) → (x == y) ≡ (y == x)
       swap x y = elim (cases_eq x y) [
         | inl same ↦ eq-eqb x y same ∙ sym (eq-eqb y x (sym same))
-        | inr other ↦ differ x y other ∙ sym (differ y x (λ is. other (sym is)))
+        | inr other ↦ ne_eqb x y other ∙ sym (ne_eqb y x (λ is. other (sym is)))
       ]
 
       propagated : (e : ℕ) → e < length (all_parts (rules r)) →

@@ -1,10 +1,10 @@
 -- The row of the arms that were passed.
-use Rattle.std.proofs.Common.{◌≡◌, ◌≢◌, ℕ, ◌+◌, ◌-◌, ◌<◌, ◌≤◌, Bool, true, false, cond, List, ◌++◌}
+use Rattle.std.proofs.Common.{◌≡◌, ◌≢◌, ℕ, ◌+◌, ◌-◌, ◌<◌, ◌≤◌, true, false, cond, List, ◌++◌}
 use Rattle.std.proofs.Common.{length, get_or, take, Option, Some, None, refl, sym, ◌∙◌, ◌⊎◌, arith}
 use Rattle.std.proofs.Common.{inl, inr}
 use Rattle.std.specs.Prelude.{◌==◌, is_some}
 use Rattle.std.specs.List.{insert}
-use Rattle.std.proofs.lemmas.Bool.{eqb-true, eq-eqb, cases_lt, cases_eq}
+use Rattle.std.proofs.lemmas.Bool.{eq-eqb, cases_lt, cases_eq, ne_eqb}
 use Rattle.std.proofs.lemmas.List.{take_all}
 use Rattle.std.proofs.lemmas.List.Edits.{length-insert, get_or-insert_below, get_or-insert_at}
 use Rattle.std.proofs.lemmas.List.Edits.{get_or-insert_above}
@@ -91,13 +91,6 @@ above : {X : Type 0} (xs : List X) (at : ℕ) (y d : X) (k : ℕ) → at < k →
     get_or (insert xs at y) k d ≡ get_or xs (k - 1) d
 above xs at y d k lt le = let k-is : k - 1 + 1 ≡ k = omega (arith, lt) in
     rw k-is at (get_or-insert_above xs at y d (k - 1) (omega (arith, lt)) le)
-
--- two numbers that differ are distinguished by the test
-differs : (m n : ℕ) → m ≢ n → (m == n) ≡ false
-differs m n ne = go (m == n) refl where
-  go : (q : Bool) → (m == n) ≡ q → (m == n) ≡ false
-  go true e = absurd (ne (eqb-true m n e))
-  go false e = e
 
 -- what the rows have at each place after an arm came
 record ReadsRows (b c : Rows) (at v : ℕ) (s : ArmStep) : Type 0 where
@@ -188,7 +181,7 @@ row_counted xs ys zs f i at arms x s a b c lt is e new position parts k h = reco
       IsArm xs (Some st) (arm_of (take i arms) (index_in b j)) →
       IsArm zs (Some st) (cond (x.index == index_in b j) (Some (i, x))
       (arm_of (take i arms) (index_in b j)))
-  old j st ne was = rw (e, differs x.index (index_in b j) (λ eq. ne (sym eq)))
+  old j st ne was = rw (e, ne_eqb x.index (index_in b j) (λ eq. ne (sym eq)))
       (arm_kept xs ys (Some st) (arm_of (take i arms) (index_in b j)) was)
 
   arm : (j : ℕ) → f ≤ j → j < length c.indexes.items → (j < at) ⊎ (at ≤ j) → (j ≡ at) ⊎ (j ≢ at) →
@@ -214,7 +207,7 @@ row_counted xs ys zs f i at arms x s a b c lt is e new position parts k h = reco
   none y lacks =
       let ne : x.index ≢ y = λ eq. lacks at new.above (omega (arith, new.within, now.size))
       (now.here.0 ∙ eq) in
-      rw (differs x.index y ne) (h.none y (λ j ge end is. elim (cases_lt j at) [
+      rw (ne_eqb x.index y ne) (h.none y (λ j ge end is. elim (cases_lt j at) [
         | inl below ↦ lacks j ge (omega (arith, end, now.size)) ((now.below j below).0 ∙ is)
         | inr past ↦ lacks (j + 1) (omega (arith, ge)) (omega (arith, end, now.size))
             (further j past ∙ is)

@@ -10,10 +10,11 @@ use Rattle.types_core.specs.declared.type_info.TypeInfo.{TypeInfo}
 use Rattle.widths_core.specs.declared.counter.Kind.{Kind}
 use Rattle.widths_core.specs.declared.counter.Kind.TheVariants as kind
 use Rattle.graph_core.specs.Types.{shape, field_types}
+use Rattle.graph_core.proofs.Stopped.{all_joined}
 use Rattle.widths_core.specs.Rules.{Rule, rule, rules, rules_of, rules_from, arm_rules}
 use Rattle.widths_core.specs.Rules.{kind_of_parts, found_sized, found_none, found_of_primitive}
 use Rattle.widths_core.specs.Consistent.{nothing, rule_at}
-use Rattle.widths_core.proofs.RuleRight.{all_append, all_at}
+use Rattle.widths_core.proofs.RuleRight.{all_at}
 
 -- a rule of a definition has this kind and these parts
 abbrev pub HasKind : TypeDef → Kind → List ℕ → Type 0
@@ -81,7 +82,7 @@ rules_from_kind : (r : List TypeInfo) (s : List TypeInfo) (t : ℕ) →
 rules_from_kind r [] t h = tt
 rules_from_kind r (x ∷ s) t h =
     let here : shape r t ≡ Some x.shape = ap (shape r) (omega arith) ∙ h 0 x.shape refl in
-    all_append (IsRuleOf r) (rules_of t x.shape) (rules_from (t + 1) s)
+    all_joined (IsRuleOf r) (rules_of t x.shape) (rules_from (t + 1) s)
     (rules_kind r t x.shape here)
     (rules_from_kind r s (t + 1) (λ j d e. ap (shape r) (omega arith) ∙ h (suc j) d e))
 

@@ -1,6 +1,6 @@
 -- Each rule of a registry is right: where the parts have values, the owner is what the rule finds.
 use Rattle.std.proofs.Common.{◌≡◌, ℕ, zero, suc, ◌+◌, ◌<◌, Bool, true, false, cond, List, [], ◌∷◌}
-use Rattle.std.proofs.Common.{◌++◌, length, get_or, Some, None, refl, sym, ap, ◌∙◌, arith}
+use Rattle.std.proofs.Common.{length, get_or, Some, None, refl, sym, ap, ◌∙◌, arith}
 use Rattle.std.specs.Prelude.{◌==◌}
 use Rattle.std.specs.List.{AllByRecursion, list_all, list_any}
 use Rattle.types_core.specs.Kinds.{kind_of}
@@ -17,6 +17,7 @@ use Rattle.widths_core.specs.declared.class.Class.TheVariants as class
 use Rattle.widths_core.specs.declared.counter.Kind.{Kind}
 use Rattle.widths_core.specs.declared.counter.Kind.TheVariants as kind
 use Rattle.graph_core.specs.Types.{shape, ids, field_types}
+use Rattle.graph_core.proofs.Stopped.{all_joined}
 use Rattle.widths_core.specs.Arms.{live_arms}
 use Rattle.widths_core.specs.Targets.{leads_kind, leads_members, leads_shape, target_from}
 use Rattle.widths_core.specs.Targets.{target_of}
@@ -50,7 +51,7 @@ pub record IsRightRule (r : List TypeInfo) (x : Rule) : Type 0 where
   pub right : IsRightBy r x.owner x.parts x.kind
 
 -- a part without bytes changes nothing of a class that it is joined to
-joined-empty : (c : Class) → joined c class.Empty ≡ c
+pub joined-empty : (c : Class) → joined c class.Empty ≡ c
 joined-empty class.NoValue = refl
 joined-empty class.Empty = refl
 joined-empty class.Sized = refl
@@ -147,12 +148,6 @@ rules_right r t (Def.BitSequence store order) lt c m =
 
 -- ---- all rules
 
--- what holds of all in two lists holds of all in the two joined
-pub all_append : {X : Type 0} (P : X → Type 0) (xs ys : List X) → AllByRecursion P xs →
-    AllByRecursion P ys → AllByRecursion P (xs ++ ys)
-all_append P [] ys h k = k
-all_append P (x ∷ xs) ys h k = (h.0, all_append P xs ys h.1 k)
-
 -- what holds of all in a list holds at each of its places
 pub all_at : {X : Type 0} (P : X → Type 0) (xs : List X) (k : ℕ) (d : X) → AllByRecursion P xs →
     k < length xs → P (get_or xs k d)
@@ -173,7 +168,7 @@ rules_from_right : (r : List TypeInfo) (s : List TypeInfo) (t : ℕ) →
 rules_from_right r [] t h = tt
 rules_from_right r (x ∷ s) t h =
     let here : shape r t ≡ Some x.shape = ap (shape r) (omega arith) ∙ h 0 x.shape refl in
-    all_append (IsRightRule r) (rules_of t x.shape) (rules_from (t + 1) s)
+    all_joined (IsRightRule r) (rules_of t x.shape) (rules_from (t + 1) s)
     (rules_right r t x.shape (shape-bound r t x.shape here) (class_stable r t x.shape here)
     (target_stable r t x.shape here))
     (rules_from_right r s (t + 1) (λ j d e. ap (shape r) (omega arith) ∙ h (suc j) d e))

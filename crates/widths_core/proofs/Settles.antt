@@ -35,7 +35,7 @@ use Rattle.widths_core.proofs.StepsSoFar.{chosen, written_same, written_other, w
 use Rattle.widths_core.proofs.StepsSoFar.{step_is, settles_step, KnowsLast}
 use Rattle.widths_core.specs.Propagation.{Follows}
 use Rattle.widths_core.proofs.Ranks.{and_parts, or_parts}
-use Rattle.widths_core.proofs.RuleRight.{IsRightBy, rule_right}
+use Rattle.widths_core.proofs.RuleRight.{IsRightBy, rule_right, joined-empty}
 use Rattle.widths_core.proofs.Waiting.{times-append, times-other, waiting-none, numbers-length}
 use Rattle.widths_core.proofs.Waiting.{parts_any, parts_each}
 
@@ -352,17 +352,11 @@ class_by-value true = refl
 class_by-value false = refl
 
 -- a compact always has a value by its class
-compact-value : (o : Option Target) → has_value (class_of_compact o) ≡ true
+pub compact-value : (o : Option Target) → has_value (class_of_compact o) ≡ true
 compact-value o = go (is_unit o) where
   go : (b : Bool) → has_value (cond b class.Empty class.Sized) ≡ true
   go true = refl
   go false = refl
-
--- a part without bytes changes nothing of a class that it is joined to
-one_part : (c : Class) → joined c class.Empty ≡ c
-one_part class.NoValue = refl
-one_part class.Empty = refl
-one_part class.Sized = refl
 
 -- what a right rule finds of its owner is so, where all parts have values
 found_by : (r : List TypeInfo) (t : ℕ) (ps : List ℕ) (k : Kind) (b : Bool) (last : Option Target) →
@@ -385,7 +379,7 @@ found_by r t ps kind.Sequence b last h v s m f e = absurd cc
 found_by r t ps kind.Wrap b last h v s m f e =
     let is : record { class = class_by b; target = last } ≡ f = cc in
     let one : class_of_parts (class_of r) ps ≡ class_of r h.0 =
-    rw h.1 (one_part (class_of r h.0)) in
+    rw h.1 (joined-empty (class_of r h.0)) in
     let class : class_of r t ≡ class_by b = h.2 ∙ sym one ∙ parts_sized (class_of r) ps v
     ∙ ap class_by (sym s) in
     rw (← is) (record { class = class; target = h.3 ∙ sym (m h.0 h.1); value = class_by-value b })

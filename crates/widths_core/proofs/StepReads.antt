@@ -18,7 +18,7 @@ use Rattle.widths_core.specs.Layouts.{is_byte}
 use Rattle.widths_core.specs.Steps.{references_of, IsRow, IsStep, IsTable, IsStepAt, by_class}
 use Rattle.widths_core.specs.Steps.{sequence_step, array_step, class_of_step}
 use Rattle.widths_core.proofs.Stable.{class_stable}
-use Rattle.widths_core.proofs.DraftsTo.{shape_within}
+use Rattle.widths_core.proofs.RuleRight.{shape-bound}
 
 -- at a number that is no position stands no definition
 pub shape_none : (r : List TypeInfo) (t : ℕ) → length r ≤ t → shape r t ≡ None
@@ -134,7 +134,7 @@ class_read r t o s h f = go (shape r t) refl where
       let x = rw (IsStepAt, e) at h in
       let is = x.1 in
       let same : s ≡ x.0 = cc in (
-        shape_within r t d e,
+        shape-bound r t d e,
         rw same
             (class_is r (references_of r) (λ from count arms. Unit {0}) t d x.0 e x.2),
       )

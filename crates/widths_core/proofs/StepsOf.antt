@@ -11,7 +11,6 @@ use Rattle.types_core.specs.declared.definition.Arm.{Arm}
 use Rattle.types_core.specs.declared.definition.TypeDef.{TypeDef}
 use Rattle.types_core.specs.declared.definition.TypeDef.TheVariants as Def
 use Rattle.types_core.specs.declared.type_info.TypeInfo.{TypeInfo}
-use Rattle.scale_core.specs.declared.compact.Target.{Target}
 use Rattle.widths_core.specs.declared.class.Class.{Class}
 use Rattle.widths_core.specs.declared.class.Class.TheVariants as class
 use Rattle.widths_core.specs.declared.counter.Kind.TheVariants as kind
@@ -21,8 +20,8 @@ use Rattle.graph_core.specs.declared.graph.Graph.{Graph}
 use Rattle.graph_core.specs.Counts.{times}
 use Rattle.graph_core.specs.Types.{shape}
 use Rattle.widths_core.specs.Targets.{target_of}
-use Rattle.widths_core.specs.Classes.{class_of, is_unit}
-use Rattle.widths_core.specs.ClassTables.{has_value, known_class, class_of_compact}
+use Rattle.widths_core.specs.Classes.{class_of}
+use Rattle.widths_core.specs.ClassTables.{has_value, known_class}
 use Rattle.widths_core.specs.Completing.{finished, without_value, FinishesSteps}
 use Rattle.widths_core.specs.Consistent.{rule_at, rule_number, to_at, has_settled, so_far, tells}
 use Rattle.widths_core.specs.Consistent.{nothing, told}
@@ -33,9 +32,10 @@ use Rattle.widths_core.specs.Rules.{Rule, rules, all_parts, rules_of}
 use Rattle.widths_core.specs.Steps.{references_of, IsRow, IsDraft, IsStep, IsTable, by_class}
 use Rattle.widths_core.specs.Steps.{array_step}
 use Rattle.widths_core.proofs.Complete.{all_from, classes_reported, propagated_if, rules_at}
-use Rattle.widths_core.proofs.Settles.{no_value}
+use Rattle.widths_core.proofs.Settles.{no_value, compact-value}
 use Rattle.widths_core.proofs.Stable.{class_stable}
 use Rattle.widths_core.proofs.Waiting.{parts_all, parts_each, times-other}
+use Rattle.widths_core.proofs.StepsSoFar.{set_same}
 
 -- ---- the types that have not settled
 
@@ -47,13 +47,6 @@ finish_other (x ∷ xs) zero zero s ne = absurd (ne refl)
 finish_other (x ∷ xs) zero (suc t) s ne = refl
 finish_other (x ∷ xs) (suc i) zero s ne = refl
 finish_other (x ∷ xs) (suc i) (suc t) s ne = finish_other xs i t s (λ e. ne (ap suc e))
-
--- and is read there
-pub finish_same : (xs : List TypeStep) (i : ℕ) (s y : TypeStep) → slice_get xs i ≡ Some y →
-    slice_get (set xs i s) i ≡ Some s
-finish_same [] i s y e = absurd cc
-finish_same (x ∷ xs) zero s y e = refl
-finish_same (x ∷ xs) (suc i) s y e = finish_same xs i s y e
 
 -- a place within the table has a step, the one that reading with a default gives
 pub get_at : (xs : List TypeStep) (t : ℕ) (d : TypeStep) → t < length xs →
@@ -101,7 +94,7 @@ finishes_changed classes xs ys zs i s h v at is len = record {
         let there : Some s ≡ Some y = sym at ∙ ap (λ (u : ℕ). slice_get ys u) (sym same)
         ∙ h.left t ge ∙ e in
         let one : s ≡ y = cc in
-        rw (is, same, v, ← one) (finish_same ys i (without_value s) s at)
+        rw (is, same, v, ← one) (set_same ys i (without_value s) s at)
   ];
   left = λ t le. rw is (finish_other ys i t (without_value s)
       (λ same. absurd (omega (arith, same, le))) ∙ h.left t (omega (arith, le)));
@@ -231,13 +224,6 @@ finished_array class.NoValue byte n t = refl
 finished_array class.Empty byte n t = refl
 finished_array class.Sized byte n t = refl
 
--- a compact has a value by its class
-compact_value : (o : Option Target) → has_value (class_of_compact o) ≡ true
-compact_value o = go (is_unit o) where
-  go : (b : Bool) → has_value (cond b class.Empty class.Sized) ≡ true
-  go true = refl
-  go false = refl
-
 -- the step in the end is the type's
 step_finished : (r : List TypeInfo) (refs : List ℕ) (Row : ℕ → ℕ → List Arm → Type 0) (t : ℕ)
     (d : TypeDef) (known : Bool) (x : TypeStep) → shape r t ≡ Some d → IsDraft refs Row d x →
@@ -265,7 +251,7 @@ step_finished r refs Row t (Def.Primitive p) known x e h un =
     rw h (finished_by (class_of r t) (step.Primitive p) step.NoValue refl)
 step_finished r refs Row t (Def.Compact u) known x e h un =
     let v : has_value (class_of r t) ≡ true =
-    ap has_value (class_stable r t (Def.Compact u) e) ∙ compact_value (target_of r u.0) in
+    ap has_value (class_stable r t (Def.Compact u) e) ∙ compact-value (target_of r u.0) in
     rw v refl
 step_finished r refs Row t (Def.BitSequence store order) known x e h un =
     rw h (finished_by (class_of r t) step.BitSequence step.NoValue refl)

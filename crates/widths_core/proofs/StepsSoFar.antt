@@ -40,7 +40,7 @@ chosen None s = s
 chosen (Some x) s = x
 
 -- a step that is put at a place is read there
-set_same : (xs : List TypeStep) (t : ℕ) (s y : TypeStep) → slice_get xs t ≡ Some y →
+pub set_same : (xs : List TypeStep) (t : ℕ) (s y : TypeStep) → slice_get xs t ≡ Some y →
     slice_get (set xs t s) t ≡ Some s
 set_same [] t s y e = absurd cc
 set_same (x ∷ xs) zero s y e = refl

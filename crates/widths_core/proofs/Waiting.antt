@@ -4,7 +4,7 @@ use Rattle.std.proofs.Common.{List, [], ◌∷◌, ◌++◌, length, map, get_or
 use Rattle.std.proofs.Common.{add-zero, arith, inl, inr}
 use Rattle.std.specs.Prelude.{◌==◌, ◌&&◌}
 use Rattle.std.specs.List.{list_all, list_any}
-use Rattle.std.proofs.lemmas.Bool.{eqb-true, eq-eqb, cases_lt, cases_eq}
+use Rattle.std.proofs.lemmas.Bool.{eq-eqb, cases_lt, cases_eq, ne_eqb}
 use Rattle.std.proofs.lemmas.List.{length-append, length-map, get_or_append_left}
 use Rattle.std.proofs.lemmas.List.{get_or-append_right, get_or-append-add}
 use Rattle.graph_core.specs.Counts.{times}
@@ -14,20 +14,13 @@ use Rattle.widths_core.proofs.Ranks.{and_parts, or_left, or_right}
 
 -- ---- how often
 
--- two numbers that differ are distinguished by the test
-pub differ : (x y : ℕ) → x ≢ y → (x == y) ≡ false
-differ x y ne = go (x == y) refl where
-  go : (b : Bool) → (x == y) ≡ b → (x == y) ≡ false
-  go true e = absurd (ne (eqb-true x y e))
-  go false e = e
-
 -- a number that comes to the front of a list is in it once more
 pub times-same : (x : ℕ) (xs : List ℕ) → times x (x ∷ xs) ≡ 1 + times x xs
 times-same x xs = rw (eq-eqb x x refl) refl
 
 -- another number at the front changes nothing of how often one is in a list
 pub times-other : (x y : ℕ) (xs : List ℕ) → y ≢ x → times x (y ∷ xs) ≡ times x xs
-times-other x y xs ne = rw (differ y x ne) (omega arith)
+times-other x y xs ne = rw (ne_eqb y x ne) (omega arith)
 
 -- a number is in two lists joined as often as in both together
 pub times-append : (x : ℕ) (xs ys : List ℕ) → times x (xs ++ ys) ≡ times x xs + times x ys
@@ -42,7 +35,7 @@ and_true true = refl
 and_true false = refl
 
 -- a test together with one that fails fails
-and_false : (b : Bool) → (b && false) ≡ false
+pub and_false : (b : Bool) → (b && false) ≡ false
 and_false true = refl
 and_false false = refl
 
@@ -67,7 +60,7 @@ waiting-propagated zero e (x ∷ xs) k propagated lt none =
     let none' : times e propagated ≡ 0 = rw at at none in
     let before : (times e propagated == 0) ≡ true = eq-eqb (times e propagated) 0 none' in
     let after : (times e (e ∷ propagated) == 0) ≡ false =
-    differ (times e (e ∷ propagated)) 0 (omega (arith, times-same e propagated)) in
+    ne_eqb (times e (e ∷ propagated)) 0 (omega (arith, times-same e propagated)) in
     let rest : waiting (e + 1) xs k (e ∷ propagated) ≡ waiting (e + 1) xs k propagated =
     waiting-past (e + 1) e xs k propagated (omega arith) in
     rw (at, before, after, and_true (x == k), and_false (x == k), rest) (omega arith)
@@ -112,8 +105,8 @@ waiting-zero e (x ∷ xs) k propagated h =
           cond ((x == k) && (times e propagated == 0)) 1 0 + waiting (e + 1) xs k propagated ≡ 0
       here (inl is) rest = let more : 0 < times e propagated =
           omega (arith, ap (λ (i : ℕ). times i propagated) (add-zero e), h 0 (omega arith) is) in
-          rw (differ (times e propagated) 0 (omega arith), and_false (x == k), rest) refl
-      here (inr other) rest = rw (differ x k other, rest) refl
+          rw (ne_eqb (times e propagated) 0 (omega arith), and_false (x == k), rest) refl
+      here (inr other) rest = rw (ne_eqb x k other, rest) refl
 
 -- of two lists joined, as many references wait as of the first and then of the second
 pub waiting-append : (e : ℕ) (xs ys : List ℕ) (k : ℕ) (propagated : List ℕ) →
@@ -273,7 +266,7 @@ waiting_same e s (p ∷ ps) = rw (eq-eqb s s refl, waiting_same (e + 1) s ps) (o
 -- no part of one rule waits for another
 waiting_other : (e s k : ℕ) (ps : List ℕ) → s ≢ k → waiting e (map (λ _. s) ps) k [] ≡ 0
 waiting_other e s k [] ne = refl
-waiting_other e s k (p ∷ ps) ne = rw (differ s k ne, waiting_other (e + 1) s k ps ne) refl
+waiting_other e s k (p ∷ ps) ne = rw (ne_eqb s k ne, waiting_other (e + 1) s k ps ne) refl
 
 -- where nothing was propagated, as many references wait for a rule as it has parts
 pub waiting_start : (e s : ℕ) (xs : List Rule) (k : ℕ) →

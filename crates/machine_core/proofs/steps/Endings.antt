@@ -21,6 +21,7 @@ use Rattle.grammar_core.specs.declared.form.StopReason.TheVariants as stopped
 use Rattle.value_core.specs.Built.{Built, Pieces, settled_in}
 use Rattle.value_core.specs.Refusals.{is_whole_in}
 use Rattle.value_core.specs.Walked.{OpenPart, Walked, first_in, next_from, next_of, next_type}
+use Rattle.value_core.proofs.Begun.{settled_short}
 use Rattle.outcome_core.specs.Machine.{State, remain}
 use Rattle.machine_core.specs.Reasons.{reason_of, stop_refusal}
 use Rattle.machine_core.specs.Running.{IsCarry, IsRunning, IsRunNext, held_of, run_held, state_of}
@@ -28,7 +29,6 @@ use Rattle.outcome_core.specs.Reported.{reported, rest_reported}
 use Rattle.machine_core.specs.Turned.{EndsTurns}
 use Rattle.machine_core.specs.declared.turned.Stopped.TheVariants as stop
 use Rattle.machine_core.proofs.steps.Refusing.{no_cut, stop_refuses}
-use Rattle.machine_core.proofs.steps.Settling.{settled_fewer}
 use Rattle.machine_core.proofs.steps.MachineTurn.{whole_reported}
 
 -- ---- a type that is next has a form or a reason
@@ -106,7 +106,7 @@ alone (f ∷ []) some h e = (f, refl, e)
 alone (f ∷ g ∷ fs) some h e =
     let closed : settled_in (f ∷ g ∷ fs) ≡ settled_in (g ∷ fs) =
     ap (λ (o : Option ℕ). elim o [ Some t ↦ f ∷ g ∷ fs | None ↦ settled_in (g ∷ fs) ]) e in
-    absurd (omega (arith, ap length (sym h ∙ closed), settled_fewer (g ∷ fs)))
+    absurd (omega (arith, ap length (sym h ∙ closed), settled_short (g ∷ fs)))
 
 -- where one part is open and has nothing left, nothing is read
 one_part : (r : List TypeInfo) (room : ℕ) (p : Part) (x : List ℕ) → first_of p ≡ None →

@@ -14,6 +14,7 @@ use Rattle.value_core.specs.Walked.{OpenPart, first_in, next_type, next_of, adva
 use Rattle.grammar_core.specs.declared.form.Form.{Form}
 use Rattle.grammar_core.specs.declared.form.Next.TheVariants as next
 use Rattle.value_core.proofs.Forms.{wanted}
+use Rattle.value_core.proofs.Closing.{advanced_length}
 use Rattle.outcome_core.specs.Met.{met_layout}
 use Rattle.machine_core.specs.NodeAdds.{IsAdded, with_own}
 use Rattle.machine_core.specs.Running.{state_of}
@@ -182,11 +183,6 @@ spells b n own x h more =
     ap (λ (f : Layout). own_at f own) n.laid ∙ h in
     (rw here at (own_extends (met_layout b.walk.types n.ty) own more))
 
--- the next node being there leaves as many parts open
-next_frame_count : (fs : List OpenPart) → length (advanced_in fs) ≡ length fs
-next_frame_count [] = refl
-next_frame_count (f ∷ fs) = refl
-
 -- the entry of the next node has the type that the walk says is next
 entry_is : (b : Built) (n : AtNext b) (h : Head) →
     entry n.ty h ≡ entry (type_or_0 (next_type b.walk)) h
@@ -207,7 +203,7 @@ leaf_leads b n own h is =
           b.turns;
     } in
     let rooms : b.walk.limit + 2 - length (advanced_in b.walk.frames) ≡ suc n.room =
-    ap (λ (k : ℕ). b.walk.limit + 2 - k) (next_frame_count b.walk.frames) ∙ n.rooms in
+    ap (λ (k : ℕ). b.walk.limit + 2 - k) (advanced_length b.walk.frames) ∙ n.rooms in
     let after_is : state_of before
     ≡ record {
       nodes = b.entries ++ entry n.ty h ∷ [];
@@ -220,7 +216,7 @@ leaf_leads b n own h is =
     (left_after n.top.left ∷ open_parts n.around) h own
     (first_is b.walk.types (suc n.room) n.ty n.top.left (open_parts n.around) n.first) refl
     (spells b n own (h, None) is) in
-    leads_settled b before own refl (omega (arith, next_frame_count b.walk.frames, n.bound))
+    leads_settled b before own refl (omega (arith, advanced_length b.walk.frames, n.bound))
     (rw (state_is b n, after_is) one)
 
 -- to add a node that opens parts is a turn of the machine by its own bytes
@@ -245,7 +241,7 @@ open_leads b n own h p is =
           b.turns;
     } in
     let rooms : b.walk.limit + 2 - suc (length (advanced_in b.walk.frames)) ≡ n.room =
-    omega (arith, next_frame_count b.walk.frames, n.rooms) in
+    omega (arith, advanced_length b.walk.frames, n.rooms) in
     let after_is : state_of before
     ≡ record {
       nodes = b.entries ++ entry n.ty h ∷ [];
@@ -258,7 +254,7 @@ open_leads b n own h p is =
     (left_after n.top.left ∷ open_parts n.around) h p own
     (first_is b.walk.types (suc n.room) n.ty n.top.left (open_parts n.around) n.first) refl
     (spells b n own (h, Some p) is) in
-    leads_settled b before own refl (omega (arith, next_frame_count b.walk.frames, n.bound))
+    leads_settled b before own refl (omega (arith, advanced_length b.walk.frames, n.bound))
     (rw (state_is b n, after_is) one)
 
 -- to add a node of either kind is a turn of the machine by its own bytes

@@ -4,7 +4,7 @@ use Rattle.std.proofs.Common.{take, drop, Option, Some, None, Ok, Err, refl, sym
 use Rattle.std.proofs.Common.{IfSome, append_assoc, arith, inl, inr, length-append, length-drop}
 use Rattle.std.specs.Str.{is_utf8}
 use Rattle.std.specs.Str.Lossy.{utf8_valid_len}
-use Rattle.std.proofs.lemmas.Bool.{cases_lt, lt-ltb}
+use Rattle.std.proofs.lemmas.Bool.{cases_lt}
 use Rattle.std.proofs.lemmas.List.{append-nil, length-take, take-append-drop, take-append-le}
 use Rattle.std.proofs.lemmas.Str.{utf8_valid_len_le}
 use Rattle.std.proofs.Math.Seq.{take-append-add}
@@ -36,6 +36,7 @@ use Rattle.grammar_core.specs.Reading.{leaf_own}
 use Rattle.outcome_core.specs.Reported.{own_at}
 use Rattle.machine_core.specs.Turned.{EndReports, EndsTurns, WantsBytes, WantsMemory}
 use Rattle.outcome_core.specs.Machine.{TurnLeads}
+use Rattle.outcome_core.proofs.Shortest.{short_bytes, whole_bytes}
 use Rattle.machine_core.specs.declared.reason.DecodeReason.TheVariants as reason
 use Rattle.machine_core.specs.declared.turned.Stopped.TheVariants as stop
 use Rattle.machine_core.proofs.steps.NodeAdding.{next_run}
@@ -43,7 +44,6 @@ use Rattle.machine_core.proofs.steps.Refusing.{front_short, refuses_by, run_shor
 use Rattle.machine_core.proofs.steps.Settling.{added_run, added_running}
 use Rattle.machine_core.proofs.steps.MachineTurn.{at_next, added_leads}
 use Rattle.machine_core.proofs.steps.TurnEffects.{added_count, added_same, held_closed}
-use Rattle.machine_core.proofs.steps.Whole.{bytes_whole}
 
 -- what stands after a length that is known
 pub length_again : (k : RunKind) (n : ℕ) (more : List ℕ) → IsLength k n →
@@ -57,18 +57,13 @@ run_after : (k : RunKind) (n : ℕ) (bytes : List ℕ) (read : Read Reason (List
 unfolding run_at
 run_after k n bytes read h is = rw (length_again k n bytes h, is) refl
 
--- where fewer bytes are there than are wanted, they are cut
-bytes_few : (n : ℕ) (bytes : List ℕ) → length bytes < n →
-    bytes_at n bytes ≡ Err (scale.Truncated, [])
-bytes_few n bytes h = rw (lt-ltb (length bytes) n h) refl
-
 -- bytes of it are missing
 pub run_missing : (k : RunKind) (n : ℕ) (bytes : List ℕ) → IsLength k n → length bytes < n →
     own_at (layout.plain (layout.run k)) (run_front k n ++ bytes) ≡ Err (truncated, [])
 unfolding own_at layout_at
 run_missing k n bytes h few =
     ap (λ r. leaf_own (as_leaf (leaf_of (run_leaf k) r)))
-    (run_after k n bytes (Err (scale.Truncated, [])) h (bytes_few n bytes few))
+    (run_after k n bytes (Err (scale.Truncated, [])) h (short_bytes n bytes few))
 
 -- nothing is wrong with its bytes
 judged_well : (k : RunKind) (from s : List ℕ) → bad_bytes k s ≡ None →
@@ -111,7 +106,7 @@ pub run_whole : (k : RunKind) (n : ℕ) (bytes : List ℕ) → IsLength k n → 
 unfolding own_at layout_at
 run_whole k n bytes h all good =
     ap (λ r. leaf_own (as_leaf (leaf_of (run_leaf k) r)))
-    (run_after k n bytes (Ok (bytes, [])) h (bytes_whole n bytes all)
+    (run_after k n bytes (Ok (bytes, [])) h (whole_bytes n bytes all)
     ∙ judged_well k bytes bytes good)
 
 -- they are all there, and are a text that is not UTF-8
@@ -122,7 +117,7 @@ pub run_bad : (k : RunKind) (n : ℕ) (bytes : List ℕ) (valid : ℕ) → IsLen
 unfolding own_at layout_at
 run_bad k n bytes valid h all bad =
     ap (λ r. leaf_own (as_leaf (leaf_of (run_leaf k) r)))
-    (run_after k n bytes (Ok (bytes, [])) h (bytes_whole n bytes all) ∙ bad.judged bytes)
+    (run_after k n bytes (Ok (bytes, [])) h (whole_bytes n bytes all) ∙ bad.judged bytes)
 
 -- a length that has bytes has a node's first
 front_bytes : (k : RunKind) (n i : ℕ) → i < length (run_front k n) → HasBytes (run_form k)

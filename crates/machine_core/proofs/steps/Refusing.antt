@@ -3,7 +3,6 @@ use Rattle.std.proofs.Common.{◌≡◌, ◌⊎◌, ℕ, zero, suc, ◌+◌, ◌
 use Rattle.std.proofs.Common.{List, [], ◌∷◌, ◌++◌, length, take, Some, Err, refl, sym, ap, ◌∙◌}
 use Rattle.std.proofs.Common.{arith, length-append, inl, inr}
 use Rattle.std.specs.Prelude.{◌≢◌}
-use Rattle.std.proofs.lemmas.Bool.{lt-ltb}
 use Rattle.std.proofs.lemmas.List.{length-take, take-append-le}
 use Rattle.std.proofs.Math.Seq.{take-append_seam, drop-append_seam}
 use Rattle.scale_core.specs.Read.{bytes_at, mode_len, mode_from, is_too_long, integer_at}
@@ -46,13 +45,11 @@ use Rattle.outcome_core.proofs.Owns.{own_extends}
 use Rattle.machine_core.proofs.steps.MachineTurn.{AtNext, at_next, top_of, first_is, open_parts}
 use Rattle.machine_core.proofs.steps.MachineTurn.{state_is}
 use Rattle.outcome_core.proofs.Targets.{wanted_target}
+use Rattle.outcome_core.proofs.Shortest.{short_bytes}
+use Rattle.outcome_core.proofs.NotCut.{not_cut}
 use Rattle.machine_core.proofs.steps.Whole.{u32_is}
 
 -- ---- fewer bytes than a node needs
-
--- where fewer bytes are there than are wanted, they are cut
-bytes_short : (k : ℕ) (b : List ℕ) → length b < k → bytes_at k b ≡ Err (scale.Truncated, [])
-bytes_short k b h = rw (lt-ltb (length b) k h) refl
 
 -- fewer than are needed, or none
 abbrev pub IsShortOf : (ℕ → ℕ) → List ℕ → Type 0
@@ -70,7 +67,7 @@ integer_short m (first ∷ rest) h = by (is_too_long m first) refl where
       ≡ Err (scale.Truncated, [])
   by true e = let none : length (first ∷ rest) < 1 = (rw e at h) in absurd (omega (arith, none))
   by false e = let few : length (first ∷ rest) < mode_len first = (rw e at h) in
-      rw (bytes_short (mode_len first) (first ∷ rest) few) refl
+      rw (short_bytes (mode_len first) (first ∷ rest) few) refl
 
 -- the same of a compact, if its target is not nothing
 pub compact_short : (m : Target) (b : List ℕ) → m ≢ target.Unit → IsShortOf (compact_need m) b →
@@ -95,7 +92,7 @@ IsFew (of_run k) b = run_length_at k b ≡ Err (scale.Truncated, [])
 way_short : (w : Way) (b : List ℕ) → IsFew w b → read_by w b ≡ Err (scale.Truncated, [])
 unfolding run_at
 way_short (of_no_byte l) b h = absurd h
-way_short (of_width k make fault) b h = rw (bytes_short k b h) refl
+way_short (of_width k make fault) b h = rw (short_bytes k b h) refl
 way_short (of_compact m make) b h = rw h refl
 way_short (of_run k) b h = rw h refl
 
@@ -209,10 +206,6 @@ pub record Refuses (b : Built) (x : List ℕ) (e : Refusal) (left : List ℕ) (l
   pub reports : remain b.walk.types (state_of b) x ≡ reported [] (Err ((e, left), x))
   pub decided : Decided b.walk.types (state_of b) x e left len
 
--- a refusal that is reported to be no cut is none
-cut_not : (e : Refusal) → is_cut e ≡ false → e ≢ truncated
-cut_not e h is = let no : is_cut truncated ≡ false = ap is_cut (sym is) ∙ h in absurd cc
-
 -- by own bytes of which fewer are too few
 pub refuses_by : (b : Built) (n : AtNext b) (own more back : List ℕ) (e : Refusal) →
     own_at (next_layout b) own ≡ Err (e, back) → is_cut e ≡ false →
@@ -221,7 +214,7 @@ pub refuses_by : (b : Built) (n : AtNext b) (own more back : List ℕ) (e : Refu
 refuses_by b n own more back e is cut few =
     let lay = next_layout b in
     let longer : own_at lay (own ++ more) ≡ Err (e, back ++ more) =
-    (rw is at (own_extends lay own more)) (cut_not e cut) in
+    (rw is at (own_extends lay own more)) (not_cut e cut) in
     let within : length back ≤ length own = (rw is at (own_within lay own)) in
     let front : take (length own) (own ++ more) ≡ own = take-append_seam own more in
     let parts = length-append own more in

@@ -5,9 +5,11 @@ use Rattle.value_core.specs.Built.{Built, next_entry, settled_in, settled}
 use Rattle.grammar_core.specs.Parts.{Part, first_of}
 use Rattle.grammar_core.specs.Preorder.{Head}
 use Rattle.value_core.specs.Walked.{OpenPart, advanced_in}
+use Rattle.value_core.proofs.Begun.{settled_short}
+use Rattle.value_core.proofs.Closing.{advanced_length, settled_twice}
 use Rattle.machine_core.specs.NodeAdds.{IsAdded, with_own}
 use Rattle.machine_core.specs.Running.{IsRunning}
-use Rattle.machine_core.proofs.steps.MachineTurn.{AtNext, settles}
+use Rattle.machine_core.proofs.steps.MachineTurn.{AtNext}
 
 -- a second closing changes nothing, be the innermost part whole or not, if it is so around it
 settled_by : (f g : OpenPart) (fs : List OpenPart) →
@@ -17,12 +19,6 @@ settled_by : (f g : OpenPart) (fs : List OpenPart) →
 settled_by f g fs h (Some t) e =
     ap (λ (o : Option ℕ). elim o [ Some t ↦ f ∷ g ∷ fs | None ↦ settled_in (g ∷ fs) ]) e
 settled_by f g fs h None e = h
-
--- to close what is whole twice is to close it once
-pub settled_twice : (fs : List OpenPart) → settled_in (settled_in fs) ≡ settled_in fs
-settled_twice [] = refl
-settled_twice (f ∷ []) = refl
-settled_twice (f ∷ g ∷ fs) = settled_by f g fs (settled_twice (g ∷ fs)) (first_of f.left) refl
 
 -- something stays open when what is whole is closed, if it does around the innermost part
 some_by : (f g : OpenPart) (fs : List OpenPart) → 1 ≤ length (settled_in (g ∷ fs)) →
@@ -37,21 +33,12 @@ settled_some [] h = h
 settled_some (f ∷ []) h = h
 settled_some (f ∷ g ∷ fs) h = some_by f g fs (settled_some (g ∷ fs) (omega arith)) (first_of f.left)
 
--- to close what is whole leaves no more open
-pub settled_fewer : (fs : List OpenPart) → length (settled_in fs) ≤ length fs
-settled_fewer fs = (settles [] (length fs) fs (omega arith)).fewer
-
--- the next node being there leaves as many parts open
-advanced_count : (fs : List OpenPart) → length (advanced_in fs) ≡ length fs
-advanced_count [] = refl
-advanced_count (f ∷ fs) = refl
-
 -- nothing of it is carried, and no run is open
 settled_running : (s : Built) → 1 ≤ length s.walk.frames → length s.walk.frames ≤ s.walk.limit + 2 →
     s.run ≡ None → IsRunning (settled s) []
 settled_running s some deep closed = record {
   rooted = settled_some s.walk.frames some;
-  deep = omega (arith, settled_fewer s.walk.frames, deep);
+  deep = omega (arith, settled_short s.walk.frames, deep);
   settled = settled_twice s.walk.frames;
   carried = tt;
   run_next = rw closed tt;
@@ -69,8 +56,8 @@ own_running b n (h, None) closed =
       run = b.run;
       turns = b.turns;
     } in
-    settled_running s (omega (arith, advanced_count b.walk.frames, ap length n.frames))
-    (omega (arith, advanced_count b.walk.frames, n.bound)) closed
+    settled_running s (omega (arith, advanced_length b.walk.frames, ap length n.frames))
+    (omega (arith, advanced_length b.walk.frames, n.bound)) closed
 own_running b n (h, Some p) closed =
     let opened_part : OpenPart = record { node = length b.entries; left = p } in
     let s : Built = record {
@@ -86,7 +73,7 @@ own_running b n (h, Some p) closed =
       run = b.run;
       turns = b.turns;
     } in
-    settled_running s (omega arith) (omega (arith, advanced_count b.walk.frames, n.bound)) closed
+    settled_running s (omega arith) (omega (arith, advanced_length b.walk.frames, n.bound)) closed
 
 -- a node is added
 pub added_running : (b new : Built) (own : List ℕ) → AtNext b → b.run ≡ None → IsAdded b new own →
@@ -95,7 +82,7 @@ added_running b new own n closed h =
     subst (λ (s : Built). IsRunning s []) (sym h.2) (own_running b n h.0 closed)
 
 -- to add a node leaves the open run as it is
-own_run : (b : Built) (x : Head × Option Part) → (with_own b x).run ≡ b.run
+pub own_run : (b : Built) (x : Head × Option Part) → (with_own b x).run ≡ b.run
 own_run b (h, None) = refl
 own_run b (h, Some p) = refl
 

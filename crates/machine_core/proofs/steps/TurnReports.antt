@@ -1,6 +1,6 @@
 -- What a turn does and keeps, by what it called.
 use Rattle.std.proofs.Common.{◌≡◌, ℕ, zero, suc, ◌+◌, ◌-◌, ◌<◌, ◌≤◌, List, [], ◌∷◌, ◌++◌, length}
-use Rattle.std.proofs.Common.{take, drop, min, Option, Some, None, Result, Ok, Err, refl, sym, ap}
+use Rattle.std.proofs.Common.{take, drop, min, None, Result, Ok, Err, refl, sym, ap}
 use Rattle.std.proofs.Common.{subst, ◌∙◌, append_assoc, arith, inl, inr, length-append}
 use Rattle.std.specs.Prelude.{◌==◌, true}
 use Rattle.std.proofs.lemmas.Bool.{eqb-true}
@@ -10,8 +10,6 @@ use Rattle.widths_core.specs.declared.run_kind.RunKind.{RunKind}
 use Rattle.widths_core.specs.declared.run_kind.RunKind.TheVariants as kind
 use Rattle.value_core.specs.Built.{Built, next_layout}
 use Rattle.value_core.specs.Walked.{next_of}
-use Rattle.grammar_core.specs.Parts.{Part}
-use Rattle.grammar_core.specs.Preorder.{Head}
 use Rattle.grammar_core.specs.Runs.{run_form}
 use Rattle.grammar_core.specs.declared.form.Form.{Form}
 use Rattle.grammar_core.specs.declared.form.Next.{Next}
@@ -21,7 +19,7 @@ use Rattle.form_core.specs.NodeForms.{form_of_bytes}
 use Rattle.form_core.specs.declared.forms.BytesForm.{BytesForm}
 use Rattle.form_core.specs.declared.forms.BytesForm.TheVariants as bytes
 use Rattle.machine_core.specs.NodeAdds.{IsRefused, IsSpelled, TakesNode, AddsBytes}
-use Rattle.machine_core.specs.NodeAdds.{IsAdded, with_own}
+use Rattle.machine_core.specs.NodeAdds.{IsAdded}
 use Rattle.machine_core.specs.Running.{Running, IsRunning, IsCarry, held_of}
 use Rattle.machine_core.specs.Turned.{IsSame, Steps, StepReports, EndsTurns, WantsMemory}
 use Rattle.machine_core.specs.Turned.{HasParts, node_turned}
@@ -33,7 +31,7 @@ use Rattle.machine_core.specs.declared.node.NodeFault.TheVariants as fault
 use Rattle.machine_core.specs.declared.turned.Stopped.TheVariants as stop
 use Rattle.machine_core.specs.Turned.{Turned}
 use Rattle.machine_core.proofs.steps.Refusing.{IsShortOf, own_short, refuses}
-use Rattle.machine_core.proofs.steps.Settling.{added_running}
+use Rattle.machine_core.proofs.steps.Settling.{added_running, added_run}
 use Rattle.machine_core.proofs.steps.MachineTurn.{at_next}
 use Rattle.machine_core.proofs.steps.TurnEffects.{added_same, added_steps, held_closed}
 use Rattle.machine_core.proofs.steps.TurnEffects.{taken_running}
@@ -263,17 +261,6 @@ whole_reports f b new c own rest taken result none at some a k is =
     (node_reports f b new [] own rest own taken at.wants some at.closed a refl
     (some_own f own a) k))
 
--- a node is added beside an open run, or none
-pub own_run : (b : Built) (x : Head × Option Part) → (with_own b x).run ≡ b.run
-own_run b (h, None) = refl
-own_run b (h, Some p) = refl
-
--- where none was open and a node is added, none is
-pub added_closed : (b new : Built) (own : List ℕ) → b.run ≡ None → IsAdded b new own →
-    new.run ≡ None
-added_closed b new own closed adds =
-    ap (λ (x : Built). x.run) adds.2 ∙ own_run b adds.0 ∙ closed
-
 -- a variant or a sequence is no run
 no_run_form : {X : Type 0} (f : BytesForm) (k : RunKind) → HasParts f →
     form_of_bytes f ≡ run_form k → X
@@ -289,7 +276,7 @@ no_run_form _ k has e = absurd has
 pub parts_closed : (f : BytesForm) (b new : Built) (own : List ℕ) →
     b.run ≡ None → HasParts f → TakesNode (form_of_bytes f) b new own (Ok tt) →
     new.run ≡ None
-parts_closed f b new own closed has (inl added) = added_closed b new own closed added
+parts_closed f b new own closed has (inl added) = added_run b new own closed added
 parts_closed f b new own closed has (inr opened) = no_run_form f opened.0 has opened.2
 
 -- the bytes that were missing came

@@ -3,8 +3,6 @@
 use Rattle.std.proofs.Common.{◌≡◌, ℕ, ◌^◌, Bool, true, false, cond, List, [], ◌∷◌}
 use Rattle.std.proofs.Common.{length, Option, Some, None, Ok, Err, refl, arith}
 use Rattle.std.specs.Prelude.{◌≢◌, nat_lt, not}
-use Rattle.std.proofs.lemmas.Bool.{le-ltb}
-use Rattle.std.proofs.lemmas.List.{take_all, drop_all}
 use Rattle.std.specs.Str.{bytes_eq}
 use Rattle.scale_core.specs.Compact.{compact, target_bytes}
 use Rattle.scale_core.specs.Read.{Read, bytes_at, mode_len, mode_number, mode_from, checked_mode}
@@ -32,6 +30,7 @@ use Rattle.form_core.specs.Needs.{compact_need, kind_need, AreOwn, HasBytes, IsN
 use Rattle.grammar_core.specs.Reading.{leaf_own}
 use Rattle.outcome_core.specs.Reported.{arm_own, arms_own, length_own, own_at}
 use Rattle.outcome_core.proofs.ByFault.{IsJudged, Judges, judges}
+use Rattle.outcome_core.proofs.Shortest.{whole_bytes}
 
 -- nothing is left, or the refusal does not wait for more bytes
 abbrev pub IsTakenWhole : {X : Type 0} → Read Refusal X → Type 0
@@ -42,14 +41,6 @@ IsTakenWhole (Err e) = is_cut e.0 ≡ false
 abbrev pub IsDefinite : {X : Type 0} → Read Reason X → Type 0
 IsDefinite (Ok x) = x.1 ≡ []
 IsDefinite (Err e) = e.0 ≢ scale.Truncated
-
--- where just as many bytes are there as are wanted, all are read
-pub bytes_whole : (k : ℕ) (b : List ℕ) → length b ≡ k → bytes_at k b ≡ Ok (b, [])
-bytes_whole k b h = rw (
-  le-ltb (length b) k (omega (arith, h)),
-  take_all k b (omega (arith, h)),
-  drop_all k b (omega (arith, h)),
-) refl
 
 -- a compact that is there whole leaves nothing, or is refused for good
 checked_settled : (m : Target) (at form : List ℕ) (n : ℕ) → IsDefinite (checked_mode m at n form [])
@@ -70,7 +61,7 @@ integer_settled m first rest h = by (is_too_long m first) refl where
       IsDefinite (cond long (Err (scale.CompactTooLarge, first ∷ rest))
       (mode_from m (first ∷ rest) (bytes_at (mode_len first) (first ∷ rest))))
   by true e = λ no. absurd cc
-  by false e = rw (bytes_whole (mode_len first) (first ∷ rest) (rw e at h))
+  by false e = rw (whole_bytes (mode_len first) (first ∷ rest) (rw e at h))
       (checked_settled m (first ∷ rest) (first ∷ rest) (mode_number (first ∷ rest)))
 
 -- the same of a compact, if its target is not nothing
@@ -94,7 +85,7 @@ leaf_of_settled make (Err e) h = h
 -- so many bytes that are there leave nothing, or are refused for good
 width_settled : (k : ℕ) (make : List ℕ → Leaf) (fault : List ℕ → Option Reason) (b : List ℕ) →
     IsJudged k (fault b) → length b ≡ k → IsDefinite (leaf_by b make fault (bytes_at k b))
-width_settled k make fault b h len = rw (bytes_whole k b len) (by (fault b) h) where
+width_settled k make fault b h len = rw (whole_bytes k b len) (by (fault b) h) where
   by : (f : Option Reason) → IsJudged k f → IsDefinite (judged_leaf b (make b) [] f)
   by None j = refl
   by (Some e) j = j.0

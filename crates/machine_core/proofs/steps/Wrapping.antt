@@ -18,10 +18,10 @@ use Rattle.machine_core.specs.declared.turned.Tried.TheVariants as tried
 use Rattle.machine_core.proofs.steps.LengthAdding.{fields_read}
 use Rattle.machine_core.proofs.steps.Moving.{moves_none, turn_goes_on, turn_nearer, wants_goes_on}
 use Rattle.machine_core.proofs.steps.OpenRuns.{byte_array_read}
-use Rattle.machine_core.proofs.steps.TurnReports.{added_closed, bare_reports, bare_running}
+use Rattle.machine_core.proofs.steps.TurnReports.{bare_reports, bare_running}
 use Rattle.machine_core.proofs.steps.TurnReports.{carry_none}
 use Rattle.machine_core.proofs.steps.TurnReports.{of_fields}
-use Rattle.machine_core.proofs.steps.Settling.{added_running}
+use Rattle.machine_core.proofs.steps.Settling.{added_running, added_run}
 use Rattle.machine_core.proofs.steps.TurnEffects.{added_count, added_same, added_steps}
 use Rattle.machine_core.proofs.steps.MachineTurn.{at_next}
 
@@ -56,7 +56,7 @@ wrapped_running b new c piece len h wants closed w =
     rw none
     (added_running (with_fields b) new (take len piece)
     (at_next (with_fields b) (form.ByteArray len) w.wants)
-    (added_closed b (with_fields b) [] closed (fields_added b wants))
+    (added_run b (with_fields b) [] closed (fields_added b wants))
     (array_added b new piece len w))
 
 -- they are two turns, of which the first takes no byte
@@ -69,7 +69,7 @@ wrapped_reports b new c piece len start to h wants closed w is =
     let first = fields_added b wants in
     let second = array_added b new piece len w in
     let none = carry_none b c form.Fields h.carried wants (λ no. no) in
-    let closed_mid = added_closed b mid [] closed first in
+    let closed_mid = added_run b mid [] closed first in
     let running : IsRunning mid c =
     bare_running {E = Unit {0}} b mid c form.Fields (Ok tt) h wants (λ no. no) closed first in
     let bare = bare_reports b mid c form.Fields h wants (λ no. no) closed first in

@@ -1,9 +1,10 @@
 use Rattle.std.proofs.Common.{arith}
 use Rattle.registry_core.specs.Laws.{FitsMetadata, metadata_of}
 use Rattle.registry_core.specs.Reading.{metadata_at}
-use Rattle.registry_core.proofs.Whole.{are_bytes, metadata_codec, ok_within, ok_exact, ok_found}
+use Rattle.registry_core.proofs.Whole.{metadata_codec, ok_within, ok_exact, ok_found}
 use Rattle.registry_core.proofs.Whole.{ok_only, err_within, err_exact, err_only}
 use Rattle.registry_core.proofs.reading.read_metadata.Goals as goal
+use Rattle.scale_core.proofs.ReadModes.{are_bytes}
 
 pub overflow_sub-result : goal.overflow_sub-result
 overflow_sub-result c =

@@ -2,9 +2,10 @@ use Rattle.std.proofs.Common.{arith}
 use Rattle.types_core.specs.Fits.{FitsRegistry}
 use Rattle.registry_core.specs.Reading.{registry_at}
 use Rattle.registry_core.specs.Spelling.{spelling}
-use Rattle.registry_core.proofs.Whole.{are_bytes, registry_codec, ok_within, ok_exact, ok_found}
+use Rattle.registry_core.proofs.Whole.{registry_codec, ok_within, ok_exact, ok_found}
 use Rattle.registry_core.proofs.Whole.{ok_only, err_within, err_exact, err_only}
 use Rattle.registry_core.proofs.reading.read_registry.Goals as goal
+use Rattle.scale_core.proofs.ReadModes.{are_bytes}
 
 pub overflow_sub-result : goal.overflow_sub-result
 overflow_sub-result c =

@@ -1,8 +1,8 @@
 use Rattle.std.proofs.Common.{◌≡◌, Ok, arith, refl}
 use Rattle.registry_core.specs.Reading.{registry_at}
 use Rattle.registry_core.proofs.Spelled.{read_is_spelled}
-use Rattle.registry_core.proofs.Whole.{are_bytes}
 use Rattle.registry_core.proofs.reading.registry_of.Goals as goal
+use Rattle.scale_core.proofs.ReadModes.{are_bytes}
 
 pub from_types-requires : goal.from_types-requires
 unfolding registry_at

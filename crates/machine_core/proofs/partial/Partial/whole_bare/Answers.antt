@@ -4,10 +4,11 @@ use Rattle.machine_core.specs.NodeAdds.{AddsBytes}
 use Rattle.machine_core.specs.Running.{Running}
 use Rattle.machine_core.specs.Turned.{WholeReports}
 use Rattle.machine_core.proofs.steps.FormSplits.{have_none}
-use Rattle.machine_core.proofs.steps.TurnReports.{added_closed, at_node, bare_running, bare_reports}
+use Rattle.machine_core.proofs.steps.TurnReports.{at_node, bare_running, bare_reports}
 use Rattle.machine_core.proofs.steps.TurnReports.{bare_wants, carry_none, of_fields}
 use Rattle.machine_core.proofs.partial.Partial.whole_bare.Goals as goal
 use Rattle.machine_core.proofs.partial.Partial.whole_bare.Goals.{in-Ok, in-Err}
+use Rattle.machine_core.proofs.steps.Settling.{added_run}
 
 pub invariant_of-self : goal.invariant_of-self
 invariant_of-self g c =
@@ -32,7 +33,7 @@ returns-clause-reports g c =
             (omega arith, added.0, added.1),
             (
               carry_none b k f c.self.invariant.carried at.wants none,
-              added_closed b new [] at.closed
+              added_run b new [] at.closed
                   (subst (AddsBytes b new []) w.in-Ok.is c.add_bare.ensures),
             ),
           ))
