@@ -2,7 +2,7 @@
 use Rattle.std.proofs.Common.{◌≡◌, ℕ, zero, suc, ◌+◌, ◌-◌, ◌*◌, ◌/◌, ◌%◌, ◌^◌, ◌<◌, ◌≤◌, Bool, true}
 use Rattle.std.proofs.Common.{false, cond, List, [], ◌∷◌, ◌++◌, length, flat_map, Option, Some}
 use Rattle.std.proofs.Common.{None, refl, sym, ap, subst, ◌∙◌, arith, inl, inr}
-use Rattle.std.specs.Prelude.{ℤ, pos, neg_ℤ, nat_lt, slice_get}
+use Rattle.std.specs.Prelude.{ℤ, pos, neg_ℤ, nat_lt}
 use Rattle.std.proofs.lemmas.List.{append-nil}
 use Rattle.std.proofs.lemmas.Nat.{pow-add}
 use Rattle.std.proofs.lemmas.Grind.{flat_map-append}
@@ -185,12 +185,6 @@ compact_is r t target.Unit x b e h =
 compact_is r t _ x b e h = sym h.1
 
 -- ---- the index of an arm
-
--- an arm that stands after others is at the position that is their number
-get_at : (before : List Arm) (a : Arm) (after : List Arm) →
-    slice_get (before ++ a ∷ after) (length before) ≡ Some a
-get_at [] a after = refl
-get_at (x ∷ before) a after = get_at before a after
 
 -- the arm at the position that is found for an index has this index as its byte
 index_at : (arms : List Arm) (i q : ℕ) (a : Arm) → arm_of arms i ≡ Some (q, a) →

@@ -45,12 +45,6 @@ each_are r t (and v vs) b p h =
     let q : AreBytes (h.0 ++ h.1) = rw (← h.2) p in
     ((h.0, front_bytes h.0 h.1 q, h.3), each_are r t vs h.1 (rest_bytes h.0 h.1 q) h.4)
 
--- an arm that stands after others is at the position that is their number
-get_at : (before : List Arm) (a : Arm) (after : List Arm) →
-    slice_get (before ++ a ∷ after) (length before) ≡ Some a
-get_at [] a after = refl
-get_at (x ∷ before) a after = get_at before a after
-
 -- the types of an arm's fields
 pub arm_part_is : (r : List TypeInfo) (t q : ℕ) (arms : List Arm) (i : ℕ) (a : Arm) →
     layout r t ≡ layout.arms arms → arm_of arms i ≡ Some (q, a) →

@@ -11,15 +11,6 @@ use Rattle.machine_core.specs.NodeAdds.{IsAdded, with_own}
 use Rattle.machine_core.specs.Running.{IsRunning}
 use Rattle.machine_core.proofs.steps.MachineTurn.{AtNext}
 
--- a second closing changes nothing, be the innermost part whole or not, if it is so around it
-settled_by : (f g : OpenPart) (fs : List OpenPart) →
-    settled_in (settled_in (g ∷ fs)) ≡ settled_in (g ∷ fs) → (o : Option ℕ) → first_of f.left ≡ o →
-    settled_in (elim o [ Some t ↦ f ∷ g ∷ fs | None ↦ settled_in (g ∷ fs) ])
-    ≡ elim o [ Some t ↦ f ∷ g ∷ fs | None ↦ settled_in (g ∷ fs) ]
-settled_by f g fs h (Some t) e =
-    ap (λ (o : Option ℕ). elim o [ Some t ↦ f ∷ g ∷ fs | None ↦ settled_in (g ∷ fs) ]) e
-settled_by f g fs h None e = h
-
 -- something stays open when what is whole is closed, if it does around the innermost part
 some_by : (f g : OpenPart) (fs : List OpenPart) → 1 ≤ length (settled_in (g ∷ fs)) →
     (o : Option ℕ) → 1 ≤ length {A = OpenPart}
