@@ -44,7 +44,7 @@ use Rattle.outcome_core.proofs.DecidingFronts.{chain, finish, bind_chain}
 use Rattle.outcome_core.proofs.Shortest.{and_finish, elements_chain, body_at}
 
 -- the fault stands within b, and k is what it takes
-abbrev ReportedWithin : {E X : Type 0} → (E → Refusal) → List ℕ → ℕ → Read E X → Type 0
+abbrev pub ReportedWithin : {E X : Type 0} → (E → Refusal) → List ℕ → ℕ → Read E X → Type 0
 ReportedWithin m b k (Ok x) = Unit {0}
 ReportedWithin m b k (Err e) = (length e.1 ≤ length b) × IsTakenBefore (m e.0) e.1 (place b e.1) k
 
@@ -118,7 +118,7 @@ integer_reported m (first ∷ tail) =
           (form, drop (mode_len first) (first ∷ tail))
 
 -- the same where the target may be nothing, and there is no byte
-compact_reported : (m : Target) (b : List ℕ) →
+pub compact_reported : (m : Target) (b : List ℕ) →
     ReportedWithin basic b (compact_taken m b) (compact_at m b)
 unfolding compact_at
 compact_reported target.Unit b = tt
@@ -293,7 +293,7 @@ arms_reported r room h arms [] = (omega arith, refl)
 arms_reported r room h arms (i ∷ b) = arm_reported r room h i b (arm_of arms i)
 
 -- the fault of a value without parts is reported by the bytes that are taken
-plain_reported : (p : Plain) (b : List ℕ) → ReportedWithin (λ e. e) b (leaf_taken p b) (leaf_at p b)
+pub plain_reported : (p : Plain) (b : List ℕ) → ReportedWithin (λ e. e) b (leaf_taken p b) (leaf_at p b)
 plain_reported p b =
     as_leaf_reported b _ (read_by (way_of p) b) (way_reported (way_of p) (judges p) b)
 
