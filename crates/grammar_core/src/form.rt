@@ -1,11 +1,11 @@
 //! What a value of a type begins with, by its step in the registry's table.
 
 ghost use Rattle.std.specs.Prelude.{◌≡◌};
-ghost use Rattle.grammar_core.specs.Forms.{next_at, next_of_step};
+ghost use Rattle.grammar_core.specs.Forms.{next_of_step};
 
 use scale_core::Target;
-use types_core::{Primitive, TypeId};
-use widths_core::{Checked, TypeStep};
+use types_core::Primitive;
+use widths_core::TypeStep;
 
 /// The form of a node, which says how many parts it has (SCALE codec, "Types").
 #[derive(Clone, Copy, Debug, PartialEq, Eq)]
@@ -80,16 +80,5 @@ pub fn next_of_step(step: TypeStep) -> Next
         TypeStep::Bytes => Next::Wants(Form::Bytes),
         TypeStep::Count => Next::Wants(Form::Count),
         TypeStep::BitSequence => Next::Stop(StopReason::BitSequence),
-    }
-}
-
-/// Returns what a value of the type begins with, or why there is none, at a depth within the limit.
-/// It takes one look-up.
-pub fn next_at(checked: &Checked, ty: TypeId) -> Next
-    ensures { result ≡ next_at checked.now.types ty.0 }
-{
-    match checked.step(ty) {
-        Some(step) => next_of_step(step),
-        None => Next::Stop(StopReason::NoFiniteValue),
     }
 }

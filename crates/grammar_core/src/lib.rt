@@ -4,6 +4,6 @@
 mod form;
 pub mod laws;
 
-pub use form::{Form, Next, StopReason, next_at, next_of_step};
+pub use form::{Form, Next, StopReason, next_of_step};
 pub use limits_core::{Limits, MAX_DEPTH};
 pub use widths_core::RunKind;

@@ -1,7 +1,6 @@
 //! A registry whose references are known, and what was found of its types.
 
 ghost use Rattle.std.specs.Prelude.{◌≡◌, ◌<◌, length, IfOk, IfErr, IfSome, SomeIff, option_map};
-ghost use Rattle.std.specs.Prelude.{slice_get};
 ghost use Rattle.types_core.specs.Fits.{FitsDefinition};
 ghost use Rattle.widths_core.specs.Analysed.{HasFewLooks};
 ghost use Rattle.widths_core.specs.Arms.{arm_at};
@@ -131,14 +130,6 @@ impl Checked {
         ensures { IsStepAt self.now.types id.0 result }
     {
         step_of(self.steps.as_slice(), id.0)
-    }
-
-    /// Returns the reference with this number, counted from 0 in the order of the registry's bytes.
-    /// It takes one look-up.
-    pub fn member(&self, at: u32) -> Option<u32>
-        ensures { result ≡ slice_get (references_of self.now.types) at }
-    {
-        self.members.get(at as usize).copied()
     }
 
     /// Returns all references, in the order of the registry's bytes.
