@@ -10,7 +10,7 @@ use Rattle.std.proofs.lemmas.List.{length-take, nil_from_length}
 use Rattle.grammar_core.specs.Tree.{Tree}
 use Rattle.decode_core.specs.Decoding.{AnswersPiece, Decoding, FinishesDecoder, IsEnded, Led}
 use Rattle.decode_core.specs.Decoding.{OpensDecoder}
-use Rattle.outcome_core.specs.Outcome.{Job, done, more, IsOutcome}
+use Rattle.outcome_core.specs.Outcome.{Query, done, more, IsOutcome}
 use Rattle.decode_core.specs.Streaming.{EndsAt, FeedsAll, IsUnderWay, LeavesOpen, Looks}
 use Rattle.decode_core.specs.Streaming.{Gives, ReadOf, StopsOpen, Trails}
 use Rattle.decode_core.specs.declared.decoder.Progress.{Progress}
@@ -34,7 +34,7 @@ opened (Some f) first d h = absurd h
 -- ---- where a value ends
 
 -- a value has no more bytes than are there
-pub done_fits : (j : Job) (b : List ℕ) (v : Tree) (n : ℕ) → IsOutcome j b (done v) n → n ≤ length b
+pub done_fits : (j : Query) (b : List ℕ) (v : Tree) (n : ℕ) → IsOutcome j b (done v) n → n ≤ length b
 done_fits j b v n h = omega (
   arith,
   h.5,
@@ -44,7 +44,7 @@ done_fits j b v n h = omega (
 )
 
 -- where a value ends after so many bytes, none ends after another number
-pub done_ends : (j : Job) (b : List ℕ) (v : Tree) (n : ℕ) → IsOutcome j b (done v) n → EndsAt j b n
+pub done_ends : (j : Query) (b : List ℕ) (v : Tree) (n : ℕ) → IsOutcome j b (done v) n → EndsAt j b n
 done_ends j b v n h w m k = (one_outcome j b (done w) (done v) m n k h).1
 
 -- that a value is done is not that more is wanted, so anything follows
@@ -52,14 +52,14 @@ pub no_value : {X : Type 0} (v : Tree) → done v ≡ more → X
 no_value v e = absurd cc
 
 -- where more is wanted or no byte came, no value ends before the end of the bytes
-more_ends : (j : Job) (b : List ℕ) → (length b ≡ 0) ⊎ IsOutcome j b more (length b) →
+more_ends : (j : Query) (b : List ℕ) → (length b ≡ 0) ⊎ IsOutcome j b more (length b) →
     EndsAt j b (length b)
 more_ends j b (inl z) v n h = omega (arith, done_fits j b v n h, z)
 more_ends j b (inr m) v n h = no_value v (one_outcome j b (done v) more n (length b) h m).0
 
 -- on the bytes of a decoder under way no value ends before their end
-pub under_way_ends : (d : Decoding) (b : List ℕ) → IsUnderWay d b → EndsAt d.job b (length b)
-under_way_ends d b h = more_ends d.job b h.goes_on
+pub under_way_ends : (d : Decoding) (b : List ℕ) → IsUnderWay d b → EndsAt d.query b (length b)
+under_way_ends d b h = more_ends d.query b h.goes_on
 
 -- ---- the value goes on
 
@@ -91,7 +91,7 @@ more_by (progress.Done used) h = absurd (h used refl)
 -- its nodes, and how many of the bytes are its own
 pub record Whole (old new : Decoding) (b : List ℕ) (used : ℕ) : Type 0 where
   pub tree : Tree
-  pub outcome : IsOutcome new.job b (done tree) new.taken
+  pub outcome : IsOutcome new.query b (done tree) new.taken
   pub count : new.taken ≡ old.taken + used
 
 -- an answer that the value is done reports of its tree and how many of the bytes are its own
@@ -104,12 +104,12 @@ whole_by old new b p used is h =
 -- ---- the rest of the input
 
 -- a value on the front of bytes is the outcome whatever follows them
-pub done_stays : (j : Job) (b rest : List ℕ) (v : Tree) (n : ℕ) → IsOutcome j b (done v) n →
+pub done_stays : (j : Query) (b rest : List ℕ) (v : Tree) (n : ℕ) → IsOutcome j b (done v) n →
     IsOutcome j (b ++ rest) (done v) n
 done_stays j b rest v n h = outcome_is_kept j b rest (done v) n (λ e. no_value v e) h
 
 -- what all known bytes are, where some were taken and these are left
-pub ended_known : (known left : Option (List ℕ)) (j : Job) (b : List ℕ) (f : DecodeFault) (n : ℕ) →
+pub ended_known : (known left : Option (List ℕ)) (j : Query) (b : List ℕ) (f : DecodeFault) (n : ℕ) →
     Consumes known left b → IsEnded j b f n →
     IfSome known (λ bytes. FinishesDecoder j bytes (Err f))
 ended_known None left j b f n c h = tt
@@ -118,7 +118,7 @@ ended_known (Some xs) (Some ys) j b f n c h =
     inr (n, subst (λ (l : List ℕ). IsEnded j l f n) (sym c) (ended_stays j b ys f n h))
 
 -- a value that ends before the last of the bytes has some of them after it
-trails_after : (j : Job) (xs b rest : List ℕ) (v : Tree) (n : ℕ) → xs ≡ b ++ rest →
+trails_after : (j : Query) (xs b rest : List ℕ) (v : Tree) (n : ℕ) → xs ≡ b ++ rest →
     IsOutcome j b (done v) n → n < length b + length rest → Trails j n xs
 trails_after j xs b rest v n is h less = (
   v,
@@ -127,7 +127,7 @@ trails_after j xs b rest v n is h less = (
 )
 
 -- a value that ends before the last of the bytes read has bytes of the reader after it
-pub trails_within : (known left : Option (List ℕ)) (j : Job) (b : List ℕ) (v : Tree) (n : ℕ) →
+pub trails_within : (known left : Option (List ℕ)) (j : Query) (b : List ℕ) (v : Tree) (n : ℕ) →
     Consumes known left b → IsOutcome j b (done v) n → n < length b → IfSome known (Trails j n)
 trails_within None left j b v n c h less = tt
 trails_within (Some xs) None j b v n c h less = absurd c
@@ -135,7 +135,7 @@ trails_within (Some xs) (Some ys) j b v n c h less =
     trails_after j xs b ys v n c h (omega (arith, less))
 
 -- where the reader has bytes left, some follow the value that was read
-pub trails_left : (known left : Option (List ℕ)) (j : Job) (b : List ℕ) (v : Tree) (n : ℕ) →
+pub trails_left : (known left : Option (List ℕ)) (j : Query) (b : List ℕ) (v : Tree) (n : ℕ) →
     Consumes known left b → IsOutcome j b (done v) n → IfSome left (λ rest. 0 < length rest) →
     IfSome known (Trails j n)
 trails_left None left j b v n c h some = tt
@@ -178,17 +178,17 @@ pub gives_next : {R : Type 0} (reads : ReadOf R) (old : R) (k : ℕ) (b : List �
 gives_next reads old k b mid before n part new g r = (b, mid, g, before, n, part, r, refl)
 
 -- a read that failed consumed nothing
-pub stops_open : (fails : List ℕ → Type 0) (known mid left : Option (List ℕ)) (j : Job)
+pub stops_open : (fails : List ℕ → Type 0) (known mid left : Option (List ℕ)) (j : Query)
     (b : List ℕ) → fails b → Consumes known mid b → Keeps mid left → LeavesOpen j b →
     StopsOpen j fails known left
 stops_open fails known mid left j b f c k h = (b, f, Consumes-kept known mid left b c k, h)
 
 -- nothing was read, or more is wanted
-pub under_way_open : (d : Decoding) (b : List ℕ) → IsUnderWay d b → LeavesOpen d.job b
+pub under_way_open : (d : Decoding) (b : List ℕ) → IsUnderWay d b → LeavesOpen d.query b
 under_way_open d b h = elim h.goes_on [ inl none ↦ inl none | inr out ↦ inr (inl out) ]
 
 -- the value has all these bytes
-done_open : (j : Job) (b : List ℕ) (v : Tree) (n : ℕ) → IsOutcome j b (done v) n → length b ≤ n →
+done_open : (j : Query) (b : List ℕ) (v : Tree) (n : ℕ) → IsOutcome j b (done v) n → length b ≤ n →
     LeavesOpen j b
 done_open j b v n h long = let all : n ≡ length b = omega (arith, long, done_fits j b v n h) in
     inr (inr (v, subst (IsOutcome j b (done v)) all h))
@@ -196,20 +196,20 @@ done_open j b v n h long = let all : n ≡ length b = omega (arith, long, done_f
 -- what a look after a whole value says
 pub look_feeds : (looks : Type 0) (fails : List ℕ → Type 0) (known left end : Option (List ℕ))
     (d : Decoding) (b : List ℕ) (v : Tree) (r : Result Bool StreamFault) → (looks → fails b) →
-    Consumes known left b → IsOutcome d.job b (done v) d.taken → Led d b → length b ≤ d.taken →
+    Consumes known left b → IsOutcome d.query b (done v) d.taken → Led d b → length b ≤ d.taken →
     Looks looks left end r → FeedsAll d fails known end r
 look_feeds looks fails known left end d b v (Ok true) f c out led long look =
-    trails_left known left d.job b v d.taken c out look
+    trails_left known left d.query b v d.taken c out look
 look_feeds looks fails known left end d b v (Ok false) f c out led long look =
-    let all : d.taken ≡ length b = omega (arith, long, done_fits d.job b v d.taken out) in (
+    let all : d.taken ≡ length b = omega (arith, long, done_fits d.query b v d.taken out) in (
       b,
       led,
-      subst (EndsAt d.job b) all (done_ends d.job b v d.taken out),
+      subst (EndsAt d.query b) all (done_ends d.query b v d.taken out),
       all_known known left b c look,
     )
 look_feeds looks fails known left end d b v (Err stream.Device) f c out led long look =
-    stops_open fails known left end d.job b (f look.1) c look.0
-    (done_open d.job b v d.taken out long)
+    stops_open fails known left end d.query b (f look.1) c look.0
+    (done_open d.query b v d.taken out long)
 look_feeds looks fails known left end d b v (Err (stream.Open e)) f c out led long look =
     absurd look
 look_feeds looks fails known left end d b v (Err (stream.Decode e)) f c out led long look =

@@ -19,7 +19,7 @@ use Rattle.graph_core.specs.Widths.{widest}
 use Rattle.grammar_core.specs.Begun.{Begun, begun_preorder, begun_nodes, begun_text_bytes}
 use Rattle.outcome_core.specs.Bound.{node_bound, value_bound}
 use Rattle.outcome_core.specs.Machine.{remain, start}
-use Rattle.outcome_core.specs.Outcome.{Job, done, refused, more, too_long, IsOutcome}
+use Rattle.outcome_core.specs.Outcome.{Query, done, refused, more, too_long, IsOutcome}
 use Rattle.machine_core.specs.Reasons.{reason_of}
 use Rattle.machine_core.specs.Running.{Running, held_of, state_of}
 use Rattle.outcome_core.specs.HeldLaws.{open_run}
@@ -37,7 +37,7 @@ use Rattle.machine_core.specs.declared.reason.DecodeReason.TheVariants as reason
 -- what is decoded, how many bytes were taken, the value in progress or the fault that ended it, how
 -- many turns were taken, and how many calls fed it
 pub record Decoding : Type 0 where
-  pub job : Job
+  pub query : Query
   pub taken : ℕ
   pub run : Result Running DecodeFault
   pub turns : ℕ
@@ -62,21 +62,21 @@ first_running types root depth =
 abbrev pub built_tree : Built → Tree
 built_tree b = tree_of (map (λ e. e.head) b.entries)
 
--- the value has the job's type, registry and depth limit
-pub record IsOf (j : Job) (s : Running) : Type 0 where
+-- the value has the query's type, registry and depth limit
+pub record IsOf (j : Query) (s : Running) : Type 0 where
   pub types : s.built.walk.types ≡ j.registry
   pub ty : s.built.ty ≡ j.ty
   pub limit : s.built.walk.limit ≡ j.depth
 
 -- the value's nodes are all that these bytes add, and more bytes are needed
-pub record IsWaiting (j : Job) (b : List ℕ) (s : Running) : Type 0 where
+pub record IsWaiting (j : Query) (b : List ℕ) (s : Running) : Type 0 where
   pub wants : WantsBytes s
   pub reads : reported_at j.registry (suc j.depth) j.ty b
       ≡ reported s.built.entries (Err ((truncated, wants.left), held_of s))
   pub sound : IsSound s
 
 -- these bytes are those of the nodes followed by the held bytes, and more may come
-pub record IsGoing (j : Job) (b : List ℕ) (s : Running) (n : ℕ) : Type 0 where
+pub record IsGoing (j : Query) (b : List ℕ) (s : Running) (n : ℕ) : Type 0 where
   pub same : IsOf j s
   pub own : List ℕ
   pub is : b ≡ own ++ held_of s
@@ -87,7 +87,7 @@ pub record IsGoing (j : Job) (b : List ℕ) (s : Running) (n : ℕ) : Type 0 whe
   pub fits : n ≤ j.bytes
 
 -- a complete value stands at the front of these bytes
-pub record IsDone (j : Job) (b : List ℕ) (s : Running) (n : ℕ) : Type 0 where
+pub record IsDone (j : Query) (b : List ℕ) (s : Running) (n : ℕ) : Type 0 where
   pub same : IsOf j s
   pub whole : (x : List ℕ) → remain j.registry (state_of s.built) x ≡ reported [] (Ok x)
   pub nothing : held_of s ≡ []
@@ -99,7 +99,7 @@ pub record IsDone (j : Job) (b : List ℕ) (s : Running) (n : ℕ) : Type 0 wher
 -- memory ran out: the first n of these bytes, within the limit, are those of the nodes of a value
 -- in progress and those that it holds. What comes next is not rejected: a node that bytes spell was
 -- to be added, or bytes of a text or a run of bytes were to be kept
-pub record RanOut (j : Job) (b : List ℕ) (n : ℕ) : Type 0 where
+pub record RanOut (j : Query) (b : List ℕ) (n : ℕ) : Type 0 where
   pub s : Running
   pub same : IsOf j s
   pub own : List ℕ
@@ -111,31 +111,31 @@ pub record RanOut (j : Job) (b : List ℕ) (n : ℕ) : Type 0 where
   pub sound : IsSound s
 
 -- why decoding ended: memory ran out, or these bytes have this outcome
-abbrev pub IsEnded : Job → List ℕ → DecodeFault → ℕ → Type 0
+abbrev pub IsEnded : Query → List ℕ → DecodeFault → ℕ → Type 0
 IsEnded j b f n = ((f ≡ record { reason = reason.OutOfMemory; at = 0 }) × RanOut j b n)
     ⊎ (((f ≡ record { reason = reason.TooLong; at = j.bytes }) × IsOutcome j b too_long n)
     ⊎ ((e : Refusal) × (at : ℕ) × (f ≡ record { reason = reason_of e; at = at })
     × IsOutcome j b (refused e at) n))
 
-abbrev pub RunLed : Job → List ℕ → ℕ → Result Running DecodeFault → Type 0
+abbrev pub RunLed : Query → List ℕ → ℕ → Result Running DecodeFault → Type 0
 RunLed j b n (Ok s) = IsGoing j b s n ⊎ IsDone j b s n
 RunLed j b n (Err f) = IsEnded j b f n
 
 -- these bytes, in whatever pieces, have led to the decoder
 abbrev pub Led : Decoding → List ℕ → Type 0
-Led d b = RunLed d.job b d.taken d.run
+Led d b = RunLed d.query b d.taken d.run
 
 -- the answer to a piece is the outcome of all bytes so far
 abbrev pub AnswersPiece : Decoding → Decoding → List ℕ → Result Progress DecodeFault → Type 0
-AnswersPiece old new b (Ok progress.More) = IsOutcome new.job b more new.taken
+AnswersPiece old new b (Ok progress.More) = IsOutcome new.query b more new.taken
 AnswersPiece old new b (Ok (progress.Done used)) = (s : Running) × (new.run ≡ Ok s)
-    × IsOutcome new.job b (done (built_tree s.built)) new.taken × (new.taken ≡ old.taken + used)
-AnswersPiece old new b (Err f) = (new.run ≡ Err f) × IsEnded new.job b f new.taken
+    × IsOutcome new.query b (done (built_tree s.built)) new.taken × (new.taken ≡ old.taken + used)
+AnswersPiece old new b (Err f) = (new.run ≡ Err f) × IsEnded new.query b f new.taken
 
 -- what is held after `More`: the nodes of the one begun tree that these bytes make, and the bytes
 -- after the tree's, which are too few for the next node. The bytes of texts and runs are those of
 -- the tree and those of an open run after its length
-pub record HoldsOf (j : Job) (b : List ℕ) (s : Running) : Type 0 where
+pub record HoldsOf (j : Query) (b : List ℕ) (s : Running) : Type 0 where
   pub tree : Begun
   pub holds : Holds j.registry (suc j.depth) j.ty b tree (held_of s)
   pub shows : shown s.built.entries ≡ begun_preorder tree
@@ -144,7 +144,7 @@ pub record HoldsOf (j : Job) (b : List ℕ) (s : Running) : Type 0 where
       ≡ begun_text_bytes tree + open_run (layout j.registry holds.2) (held_of s)
 
 abbrev pub HoldsAt : Decoding → List ℕ → Result Progress DecodeFault → Type 0
-HoldsAt d b (Ok progress.More) = (s : Running) × (d.run ≡ Ok s) × HoldsOf d.job b s
+HoldsAt d b (Ok progress.More) = (s : Running) × (d.run ≡ Ok s) × HoldsOf d.query b s
 HoldsAt d b _ = Unit {0}
 
 -- how many turns the builder's loop has taken; `gone` is the count of a builder that was dropped
@@ -160,18 +160,18 @@ LoopCounted n s turns calls = (length s.built.entries + calls ≤ turns)
 
 -- the turns of both loops: each turn of the builder's loop closes a node; after a fault the nodes
 -- are gone, and only an upper bound is known
-abbrev pub RunCounted : Job → ℕ → Result Running DecodeFault → ℕ → ℕ → Type 0
+abbrev pub RunCounted : Query → ℕ → Result Running DecodeFault → ℕ → ℕ → Type 0
 RunCounted j n (Ok s) turns calls = (length s.built.entries + s.built.turns + calls ≤ turns)
     × (turns ≤ n + length s.built.entries + s.built.turns + calls)
 RunCounted j n (Err f) turns calls =
     turns ≤ n + 2 * node_bound n j.depth (widest j.registry) + calls
 
 abbrev pub IsCounted : Decoding → Type 0
-IsCounted d = RunCounted d.job d.taken d.run d.turns d.calls
+IsCounted d = RunCounted d.query d.taken d.run d.turns d.calls
 
 -- some bytes have led to the decoder, and its byte limit is at most 2^40
 pub record IsDecoding (d : Decoding) : Type 0 where
-  pub limit : d.job.bytes ≤ 2 ^ 40
+  pub limit : d.query.bytes ≤ 2 ^ 40
   pub bytes : List ℕ
   pub led : Led d bytes
   pub counted : IsCounted d
@@ -179,19 +179,19 @@ pub record IsDecoding (d : Decoding) : Type 0 where
 -- some bytes have led to this value, in progress or complete
 pub record IsLedTo (s : Running) (limit taken : ℕ) : Type 0 where
   pub small : limit ≤ 2 ^ 40
-  pub job : Job
+  pub query : Query
   pub bytes : List ℕ
-  pub is_limit : job.bytes ≡ limit
-  pub led : RunLed job bytes taken (Ok s)
+  pub is_limit : query.bytes ≡ limit
+  pub led : RunLed query bytes taken (Ok s)
 
 -- the result of a piece, by all bytes so far
-abbrev pub RunAnswers : Job → List ℕ → ℕ → Running → Fed → Type 0
+abbrev pub RunAnswers : Query → List ℕ → ℕ → Running → Fed → Type 0
 RunAnswers j b taken new (fed.More n) = IsGoing j b new n × IsOutcome j b more n × HoldsOf j b new
 RunAnswers j b taken new (fed.Done used) = IsDone j b new (taken + used)
 RunAnswers j b taken new (fed.Ended f n) = IsEnded j b f n
 
 -- how many turns there were after a piece
-abbrev pub FedCounts : Job → Running → ℕ → ℕ → ℕ → Fed → Type 0
+abbrev pub FedCounts : Query → Running → ℕ → ℕ → ℕ → Fed → Type 0
 FedCounts j new taken turns calls (fed.More n) = LoopCounted n new turns calls
 FedCounts j new taken turns calls (fed.Done used) = LoopCounted (taken + used) new turns calls
 FedCounts j new taken turns calls (fed.Ended f n) =
@@ -217,11 +217,11 @@ FedAsks s piece taken _ = Unit {0}
 -- the part of the piece within the limit led to it from the value so far
 abbrev pub AsksMemory : Decoding → List ℕ → ℕ → DecodeFault → Type 0
 AsksMemory d piece n f = f.reason ≡ reason.OutOfMemory → (d.run ≡ Err f)
-    ⊎ ((s : Running) × (d.run ≡ Ok s) × AsksAt s (take (d.job.bytes - d.taken) piece) d.taken n)
+    ⊎ ((s : Running) × (d.run ≡ Ok s) × AsksAt s (take (d.query.bytes - d.taken) piece) d.taken n)
 
 -- nothing changed except the numbers of turns and calls
 pub record IsKept (old new : Decoding) : Type 0 where
-  pub job : new.job ≡ old.job
+  pub query : new.query ≡ old.query
   pub taken : new.taken ≡ old.taken
   pub run : new.run ≡ old.run
 
@@ -235,7 +235,7 @@ HasValue d _ = Unit {0}
 -- a decoder of a type of a registry, before it has taken any bytes
 abbrev pub first_of_all : List TypeInfo → ℕ → Limits → Decoding
 first_of_all types root limits = record {
-  job = record { registry = types; ty = root; depth = limits.depth; bytes = limits.bytes };
+  query = record { registry = types; ty = root; depth = limits.depth; bytes = limits.bytes };
   taken = 0;
   run = Ok (first_running types root limits.depth);
   turns = 0;
@@ -279,11 +279,11 @@ carried d = elim d.run [ Ok s ↦ length s.carry | Err f ↦ 0 ]
 -- what is held is bounded by the bytes taken, the depth limit and the width of the registry, and so
 -- are the turns
 pub record IsSmall (d : Decoding) : Type 0 where
-  pub nodes : node_count d ≤ node_bound d.taken d.job.depth (widest d.job.registry)
+  pub nodes : node_count d ≤ node_bound d.taken d.query.depth (widest d.query.registry)
   pub texts : text_bytes d ≤ d.taken
-  pub frames : open_nodes d ≤ d.job.depth + 1
+  pub frames : open_nodes d ≤ d.query.depth + 1
   pub carry : carried d ≤ 32
-  pub turns : d.turns ≤ d.taken + 2 * node_bound d.taken d.job.depth (widest d.job.registry)
+  pub turns : d.turns ≤ d.taken + 2 * node_bound d.taken d.query.depth (widest d.query.registry)
       + d.calls
 
 -- every turn is counted that added a held node, closed a node, or ended a call
@@ -296,17 +296,17 @@ HasCounted d = elim d.run [
 -- a smaller bound on the nodes of a complete value
 abbrev pub IsSmallAtEnd : Decoding → Result Progress DecodeFault → Type 0
 IsSmallAtEnd d (Ok (progress.Done used)) =
-    node_count d ≤ value_bound d.taken d.job.depth (widest d.job.registry)
+    node_count d ≤ value_bound d.taken d.query.depth (widest d.query.registry)
 IsSmallAtEnd d _ = Unit {0}
 
 -- the bytes of a returned value bound its nodes and the bytes of its texts and runs
-abbrev pub IsSmallValue : Job → List ℕ → Result Seen DecodeFault → Type 0
+abbrev pub IsSmallValue : Query → List ℕ → Result Seen DecodeFault → Type 0
 IsSmallValue j b (Ok v) = (n : ℕ) × IsOutcome j b (done v.tree) n
     × (nodes v.tree ≤ value_bound n j.depth (widest j.registry)) × (tree_text_bytes v.tree ≤ n)
 IsSmallValue j b (Err f) = Unit {0}
 
 -- the value at the front of these bytes; or they are too few, or decoding ended with a fault
-abbrev pub FinishesDecoder : Job → List ℕ → Result Seen DecodeFault → Type 0
+abbrev pub FinishesDecoder : Query → List ℕ → Result Seen DecodeFault → Type 0
 FinishesDecoder j b (Ok v) = (n : ℕ) × (v.types ≡ j.registry) × (v.ty ≡ j.ty)
     × IsOutcome j b (done v.tree) n
 FinishesDecoder j b (Err f) =

@@ -9,7 +9,7 @@ use Rattle.grammar_core.specs.Tree.{Tree, nodes, text_bytes}
 use Rattle.node_core.specs.Shown.{Seen}
 use Rattle.limits_core.specs.declared.limits.Limits.{Limits}
 use Rattle.outcome_core.specs.Bound.{value_bound}
-use Rattle.outcome_core.specs.Outcome.{Job, done, more, IsOutcome}
+use Rattle.outcome_core.specs.Outcome.{Query, done, more, IsOutcome}
 use Rattle.decode_core.specs.Decoding.{Decoding, FinishesDecoder, Led, first_of_all}
 use Rattle.decode_core.specs.declared.fault.OpenFault.{OpenFault}
 use Rattle.decode_core.specs.declared.fault.OpenFault.TheVariants as opening
@@ -19,24 +19,24 @@ use Rattle.decode_core.specs.declared.pieces.PiecesFault.{PiecesFault}
 use Rattle.decode_core.specs.declared.pieces.PiecesFault.TheVariants as pieces
 
 -- what is decoded: a type of a registry, within these limits
-abbrev pub job_of : List TypeInfo → ℕ → Limits → Job
-job_of types root limits = (first_of_all types root limits).job
+abbrev pub query_of : List TypeInfo → ℕ → Limits → Query
+query_of types root limits = (first_of_all types root limits).query
 
 -- the fault that prevents opening a decoder; or there is none, and an allocation failed
 abbrev pub Forbids : Option OpenFault → OpenFault → Type 0
 Forbids forbidden e = (forbidden ≡ Some e) ⊎ ((e ≡ opening.OutOfMemory) × (forbidden ≡ None))
 
--- a value of the job's type and registry
-abbrev pub IsOfJob : Job → Seen → Type 0
-IsOfJob j v = (v.types ≡ j.registry) × (v.ty ≡ j.ty)
+-- a value of the query's type and registry
+abbrev pub IsOfQuery : Query → Seen → Type 0
+IsOfQuery j v = (v.types ≡ j.registry) × (v.ty ≡ j.ty)
 
 -- a value takes the first n of these bytes, and more bytes follow
-abbrev pub Trails : Job → ℕ → List ℕ → Type 0
+abbrev pub Trails : Query → ℕ → List ℕ → Type 0
 Trails j n b = (v : Tree) × IsOutcome j b (done v) n × (n < length b)
 
 -- these bytes leave the result open: there are none, and a read comes before any result; or more
 -- are needed; or they are exactly one value, and a byte may follow
-abbrev pub LeavesOpen : Job → List ℕ → Type 0
+abbrev pub LeavesOpen : Query → List ℕ → Type 0
 LeavesOpen j b = (length b ≡ 0)
     ⊎ (IsOutcome j b more (length b) ⊎ ((v : Tree) × IsOutcome j b (done v) (length b)))
 
@@ -64,16 +64,16 @@ FailsAfter {R} reads old new b = (mid : R) × (k : ℕ) × Gives reads old k b m
 
 -- the bytes read before a failed read are those that the reader no longer has, and they leave the
 -- result open
-abbrev pub StopsOpen : Job → (List ℕ → Type 0) → Option (List ℕ) → Option (List ℕ) → Type 0
+abbrev pub StopsOpen : Query → (List ℕ → Type 0) → Option (List ℕ) → Option (List ℕ) → Type 0
 StopsOpen j fails known left = (b : List ℕ) × fails b × Consumes known left b × LeavesOpen j b
 
 -- the result for all bytes of a reader: the one value that these bytes encode exactly; the fault
 -- that prevents opening a decoder; too few bytes, or the fault of these bytes; or a value that ends
 -- before they do. If a read failed, the bytes read before it leave the result open, and no others
 -- were taken
-abbrev pub Streams : Option OpenFault → Job → (List ℕ → Type 0) → List ℕ → Option (List ℕ) →
+abbrev pub Streams : Option OpenFault → Query → (List ℕ → Type 0) → List ℕ → Option (List ℕ) →
     Result Seen StreamFault → Type 0
-Streams forbidden j fails b left (Ok v) = (forbidden ≡ None) × IsOfJob j v
+Streams forbidden j fails b left (Ok v) = (forbidden ≡ None) × IsOfQuery j v
     × IsOutcome j b (done v.tree) (length b)
 Streams forbidden j fails b left (Err (stream.Open e)) = Forbids forbidden e
 Streams forbidden j fails b left (Err (stream.Decode f)) = (forbidden ≡ None)
@@ -85,8 +85,8 @@ Streams forbidden j fails b left (Err stream.Device) = (forbidden ≡ None)
 
 -- the value at the front of the joined pieces, how many bytes it takes, and that these bound it;
 -- or, as above, the fault
-abbrev pub Joins : Option OpenFault → Job → List ℕ → Result (Seen × ℕ) PiecesFault → Type 0
-Joins forbidden j b (Ok x) = (forbidden ≡ None) × IsOfJob j x.0 × IsOutcome j b (done x.0.tree) x.1
+abbrev pub Joins : Option OpenFault → Query → List ℕ → Result (Seen × ℕ) PiecesFault → Type 0
+Joins forbidden j b (Ok x) = (forbidden ≡ None) × IsOfQuery j x.0 × IsOutcome j b (done x.0.tree) x.1
     × (nodes x.0.tree ≤ value_bound x.1 j.depth (widest j.registry)) × (text_bytes x.0.tree ≤ x.1)
 Joins forbidden j b (Err (pieces.Open e)) = Forbids forbidden e
 Joins forbidden j b (Err (pieces.Decode f)) = (forbidden ≡ None) × FinishesDecoder j b (Err f)
@@ -97,11 +97,11 @@ Joins forbidden j b (Err (pieces.Decode f)) = (forbidden ≡ None) × FinishesDe
 pub record IsUnderWay (d : Decoding) (b : List ℕ) : Type 0 where
   pub led : Led d b
   pub count : d.taken ≡ length b
-  pub fits : length b ≤ d.job.bytes
-  pub goes_on : (length b ≡ 0) ⊎ IsOutcome d.job b more (length b)
+  pub fits : length b ≤ d.query.bytes
+  pub goes_on : (length b ≡ 0) ⊎ IsOutcome d.query b more (length b)
 
 -- a value at the front of these bytes takes n of them
-abbrev pub EndsAt : Job → List ℕ → ℕ → Type 0
+abbrev pub EndsAt : Query → List ℕ → ℕ → Type 0
 EndsAt j b n = (v : Tree) (m : ℕ) → IsOutcome j b (done v) m → m ≡ n
 
 -- whether a byte follows; if the read failed, no byte was read
@@ -115,12 +115,12 @@ Looks fails known left (Err _) = ⊥
 -- value; or they are rejected; or a read failed, and the bytes read before it leave the result open
 abbrev pub FeedsAll : Decoding → (List ℕ → Type 0) → Option (List ℕ) → Option (List ℕ) →
     Result Bool StreamFault → Type 0
-FeedsAll d fails known left (Ok false) = (b : List ℕ) × Led d b × EndsAt d.job b (length b)
+FeedsAll d fails known left (Ok false) = (b : List ℕ) × Led d b × EndsAt d.query b (length b)
     × IfSome known (λ bytes. bytes ≡ b)
-FeedsAll d fails known left (Ok true) = IfSome known (Trails d.job d.taken)
+FeedsAll d fails known left (Ok true) = IfSome known (Trails d.query d.taken)
 FeedsAll d fails known left (Err (stream.Decode f)) =
-    IfSome known (λ bytes. FinishesDecoder d.job bytes (Err f))
-FeedsAll d fails known left (Err stream.Device) = StopsOpen d.job fails known left
+    IfSome known (λ bytes. FinishesDecoder d.query bytes (Err f))
+FeedsAll d fails known left (Err stream.Device) = StopsOpen d.query fails known left
 FeedsAll d fails known left (Err _) = ⊥
 
 -- the front of these bytes has led to the decoder, and its value is complete, or nothing follows
@@ -129,5 +129,5 @@ pub record IsFed (d : Decoding) (b : List ℕ) : Type 0 where
   pub rest : List ℕ
   pub is : b ≡ front ++ rest
   pub led : Led d front
-  pub ends : EndsAt d.job front d.taken
-  pub whole : ((v : Tree) × IsOutcome d.job front (done v) d.taken) ⊎ (rest ≡ [])
+  pub ends : EndsAt d.query front d.taken
+  pub whole : ((v : Tree) × IsOutcome d.query front (done v) d.taken) ⊎ (rest ≡ [])

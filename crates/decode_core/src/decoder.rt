@@ -5,7 +5,7 @@ ghost use Rattle.std.specs.Prelude.{suc, take, true, IfErr, ◌-◌};
 ghost use Rattle.value_core.specs.Built.{finished};
 ghost use Rattle.value_core.specs.Refusals.{is_complete};
 ghost use Rattle.machine_core.specs.Running.{Running};
-ghost use Rattle.outcome_core.specs.Outcome.{Job};
+ghost use Rattle.outcome_core.specs.Outcome.{Query};
 ghost use Rattle.outcome_core.specs.Bound.{node_bound};
 ghost use Rattle.decode_core.specs.Decoding.{AnswersPiece, AsksMemory, CountsValue, Decoding};
 ghost use Rattle.decode_core.specs.Decoding.{FedAsks, FedCounts, FedTakes, FinishesDecoder};
@@ -95,12 +95,12 @@ fn feed_run<A: Allocator>(
     turns: &mut Count,
 ) -> Fed
     requires led { IsLedTo run.old limit taken }
-    ensures answers { (j : Job) (b : List ℕ) → j.bytes ≡ limit → RunLed j b taken (Ok run.old) →
+    ensures answers { (j : Query) (b : List ℕ) → j.bytes ≡ limit → RunLed j b taken (Ok run.old) →
         RunAnswers j (b ++ piece.now) taken run.new result }
     ensures whole { is_complete run.old.built ≡ true → (result ≡ Fed.Done 0) × (run.new ≡ run.old) }
     ensures takes { FedTakes taken (length piece.now) result }
     ensures memory { FedAsks run.old (take (limit - taken) piece.now) taken result }
-    ensures counts { (j : Job) (b : List ℕ) (calls : ℕ) → j.bytes ≡ limit →
+    ensures counts { (j : Query) (b : List ℕ) (calls : ℕ) → j.bytes ≡ limit →
         RunLed j b taken (Ok run.old) → LoopCounted taken run.old turns.old.so_far calls →
         FedCounts j run.new taken turns.new.so_far (suc calls) result }
 {
@@ -199,8 +199,8 @@ impl<'r, A: Allocator> Decoder<'r, A> {
     /// taken, and at most `1 + n * (depth + 1) * (widest + 1)` of a complete value.
     pub fn node_count(&self) -> u64
         ensures count { result ≡ node_count self.now }
-        ensures bound { result ≤ node_bound self.now.taken self.now.job.depth
-            (widest self.now.job.registry) }
+        ensures bound { result ≤ node_bound self.now.taken self.now.query.depth
+            (widest self.now.query.registry) }
     {
         match &self.run {
             Ok(run) => run.builder().node_count(),
@@ -244,7 +244,7 @@ impl<'r, A: Allocator> Decoder<'r, A> {
     ///
     /// No nodes and no bytes are held after an error.
     pub fn feed(&mut self, piece: &[u8]) -> Result<Progress, DecodeFault>
-        ensures job { self.new.job ≡ self.old.job }
+        ensures query { self.new.query ≡ self.old.query }
         ensures calls { self.new.calls ≡ self.old.calls + 1 }
         ensures refused { (f : DecodeFault) → self.old.run ≡ Err f →
             (result ≡ Err f) × IsKept self.old self.new × (self.new.turns ≡ self.old.turns) }
@@ -296,9 +296,9 @@ impl<'r, A: Allocator> Decoder<'r, A> {
         ensures whole { (s : Running) → self.entry.run ≡ Ok s → is_complete s.built ≡ true →
             result ≡ Ok (finished s.built) }
         ensures finishes { (b : List ℕ) → Led self.entry b →
-            FinishesDecoder self.entry.job b result }
+            FinishesDecoder self.entry.query b result }
         ensures memory { IfErr result (AsksMemory self.entry [] self.entry.taken) }
-        ensures small { (b : List ℕ) → Led self.entry b → IsSmallValue self.entry.job b result }
+        ensures small { (b : List ℕ) → Led self.entry b → IsSmallValue self.entry.query b result }
     {
         if let Ok(run) = &self.run
             && run.is_finished()

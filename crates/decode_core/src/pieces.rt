@@ -2,7 +2,7 @@
 
 ghost use Rattle.std.specs.Prelude.{◌≡◌, ℕ, [], IfErr, OnOk, flat_map};
 ghost use Rattle.decode_core.specs.Decoding.{IsEnded, opening_fault};
-ghost use Rattle.decode_core.specs.Streaming.{IsFed, IsUnderWay, Joins, job_of};
+ghost use Rattle.decode_core.specs.Streaming.{IsFed, IsUnderWay, Joins, query_of};
 ghost use Rattle.decode_core.specs.declared.pieces.PiecesFault.TheVariants.{Decode, Open};
 
 use crate::decoder::{Decoder, Progress};
@@ -46,10 +46,10 @@ fn feed_pieces<A: Allocator>(
     pieces: &[&[u8]],
 ) -> Result<(), DecodeFault>
     requires { IsUnderWay decoder.old [] }
-    ensures job { decoder.new.job ≡ decoder.old.job }
+    ensures query { decoder.new.query ≡ decoder.old.query }
     ensures fed { OnOk result (IsFed decoder.new (flat_map (λ p. p.now) pieces.now)) }
     ensures refused { IfErr result
-        (λ f. (n : ℕ) × IsEnded decoder.new.job (flat_map (λ p. p.now) pieces.now) f n) }
+        (λ f. (n : ℕ) × IsEnded decoder.new.query (flat_map (λ p. p.now) pieces.now) f n) }
 {
     'pieces: for piece in pieces {
         if let Progress::Done { .. } = decoder.feed(piece)? {
@@ -79,7 +79,7 @@ pub fn decode_pieces<'r, A: Allocator + Clone>(
     pieces: &[&[u8]],
 ) -> Result<(Value<'r, A>, u64), PiecesFault>
     ensures { Joins (opening_fault checked.now.types root.0 limits)
-        (job_of checked.now.types root.0 limits) (flat_map (λ p. p.now) pieces.now) result }
+        (query_of checked.now.types root.0 limits) (flat_map (λ p. p.now) pieces.now) result }
 {
     let mut decoder = Decoder::new(alloc, checked, root, limits)?;
     feed_pieces(&mut decoder, pieces)?;

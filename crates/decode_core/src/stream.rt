@@ -2,8 +2,8 @@
 
 ghost use Rattle.std.specs.Prelude.{◌≡◌, ◌⊎◌, [], true, IfOk, IfSome, IsErrOf};
 ghost use Rattle.decode_core.specs.Decoding.{opening_fault};
-ghost use Rattle.decode_core.specs.Streaming.{FailsAfter, FailsAt, FeedsAll, Forbids, IsOfJob};
-ghost use Rattle.decode_core.specs.Streaming.{IsUnderWay, Looks, StopsOpen, Streams, job_of};
+ghost use Rattle.decode_core.specs.Streaming.{FailsAfter, FailsAt, FeedsAll, Forbids, IsOfQuery};
+ghost use Rattle.decode_core.specs.Streaming.{IsUnderWay, Looks, StopsOpen, Streams, query_of};
 ghost use Rattle.decode_core.specs.declared.fault.OpenFault.{OpenFault};
 ghost use Rattle.decode_core.specs.declared.stream.StreamFault.TheVariants.{Decode, Device, Open};
 
@@ -83,7 +83,7 @@ fn feed_all<A: Allocator, R: ReadOnce>(
     source: &mut Source<R>,
 ) -> Result<bool, StreamFault>
     requires { IsUnderWay decoder.old [] }
-    ensures job { decoder.new.job ≡ decoder.old.job }
+    ensures query { decoder.new.query ≡ decoder.old.query }
     ensures answers { FeedsAll decoder.new
         (FailsAfter R.reads source.old.device source.new.device)
         (R.remaining source.old.device) (R.remaining source.new.device) result }
@@ -127,12 +127,12 @@ pub fn decode_all<'r, A: Allocator + Clone, R: ReadOnce>(
 ) -> Result<Value<'r, A>, StreamFault>
     ensures answers { IfSome (R.remaining source.old.device)
         (λ bytes. Streams (opening_fault checked.now.types root.0 limits)
-        (job_of checked.now.types root.0 limits)
+        (query_of checked.now.types root.0 limits)
         (FailsAfter R.reads source.old.device source.new.device) bytes
         (R.remaining source.new.device) result) }
-    ensures same { IfOk result (IsOfJob (job_of checked.now.types root.0 limits)) }
+    ensures same { IfOk result (IsOfQuery (query_of checked.now.types root.0 limits)) }
     ensures stopped { IsErrOf result StreamFault.Device →
-        StopsOpen (job_of checked.now.types root.0 limits)
+        StopsOpen (query_of checked.now.types root.0 limits)
         (FailsAfter R.reads source.old.device source.new.device)
         (R.remaining source.old.device) (R.remaining source.new.device) }
     ensures open { (e : OpenFault) → result ≡ Err (StreamFault.Open e) →

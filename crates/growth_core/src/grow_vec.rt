@@ -9,7 +9,7 @@ use crate::growth::{make_room, make_room_ahead};
 use std::alloc::{AllocError, Allocator};
 
 /// The greatest number of elements that one call of [`GrowVec::make_room`] may ask for.
-pub const FEW: usize = 64;
+pub const FEW_ELEMENTS: usize = 64;
 
 /// A growable list whose capacity follows one rule. No call reserves capacity at will.
 #[derive(Drop)]
@@ -62,7 +62,7 @@ impl<T, A: Allocator> GrowVec<T, A> {
         more <= self.list.capacity() - self.list.len()
     }
 
-    /// Reserves capacity for `more` further elements, at most [`FEW`].
+    /// Reserves capacity for `more` further elements, at most [`FEW_ELEMENTS`].
     ///
     /// If the list has to grow for them, it also reserves for some of those that are expected to
     /// follow ([`make_room`]).
@@ -72,7 +72,7 @@ impl<T, A: Allocator> GrowVec<T, A> {
     /// `AllocError` if the allocation fails; the list is unchanged then.
     #[inline(always)]
     pub fn make_room(&mut self, more: usize, expected: Option<usize>) -> Result<(), AllocError>
-        requires few { more ≤ FEW }
+        requires few { more ≤ FEW_ELEMENTS }
         ensures items { self.new.list.items ≡ self.old.list.items }
         ensures room { OnOk result
             (vec_len self.new.list + more ≤ vec_capacity self.new.list) }

@@ -27,7 +27,7 @@ use types_core::{Arm, Field, Fields, Keys};
 use value_core::{NodeRef, What};
 
 /// The most fields that are few: a step past each child costs less than memory for a list.
-const FEW: usize = 8;
+const FEW_CHILDREN: usize = 8;
 
 /// Writes an unsigned integer as a number or as a text of its decimal digits.
 fn write_unsigned<A: Allocator>(
@@ -111,7 +111,7 @@ fn children<'v, 'r>(
 ) -> Result<Vec<NodeRef<'v, 'r>>, AllocError>
     ensures { IfOk result (λ v. (v.items ≡ []) ⊎ (v.items ≡ children_of node.now)) }
 {
-    if count <= FEW {
+    if count <= FEW_CHILDREN {
         return Ok(Vec::new(alloc));
     }
     let mut children = Vec::with_capacity(alloc, count)?;

@@ -11,7 +11,7 @@ use Rattle.grammar_core.specs.Reading.{value_at, Refusal, basic, no_such_variant
 use Rattle.grammar_core.specs.Reading.{no_finite_value, bit_sequence, bad_compact, truncated}
 use Rattle.grammar_core.proofs.Proved.{read_is_value, stable}
 use Rattle.outcome_core.specs.Taken.{value_taken}
-use Rattle.outcome_core.specs.Outcome.{Outcome, refused, Job, IsShortest, FailsAt, IsOutcome}
+use Rattle.outcome_core.specs.Outcome.{Outcome, refused, Query, IsShortest, FailsAt, IsOutcome}
 use Rattle.outcome_core.specs.Outcome.{missing, refusal, answer, outcome_of, OutcomeIsComputed}
 use Rattle.outcome_core.specs.Outcome.{TakenIsShortest}
 use Rattle.outcome_core.proofs.DecidingFronts.{Decides}
@@ -19,14 +19,14 @@ use Rattle.outcome_core.proofs.Shortest.{value_decided}
 use Rattle.outcome_core.proofs.Outcomes.{one_outcome, failed_is}
 
 -- a value that is refused for good is decided by the bytes that are said to be taken
-decides : (j : Job) (b : List ℕ) (reason : Refusal) (left : List ℕ) → reason ≢ truncated →
+decides : (j : Query) (b : List ℕ) (reason : Refusal) (left : List ℕ) → reason ≢ truncated →
     value_at j.registry (suc j.depth) j.ty b ≡ Err (reason, left) →
     Decides truncated (value_at j.registry (suc j.depth) j.ty) b
     (value_taken j.registry (suc j.depth) j.ty b) reason
 decides j b reason left ne e = (rw e at (value_decided j.registry (suc j.depth) j.ty b)) ne
 
 -- the bytes that are said to be taken are the shortest front that is refused so, at this place
-shortest : (j : Job) (b : List ℕ) (reason : Refusal) (left : List ℕ) → reason ≢ truncated →
+shortest : (j : Query) (b : List ℕ) (reason : Refusal) (left : List ℕ) → reason ≢ truncated →
     value_at j.registry (suc j.depth) j.ty b ≡ Err (reason, left) →
     IsShortest (FailsAt j reason (place b left)) b (value_taken j.registry (suc j.depth) j.ty b)
 shortest j b reason left ne e =
@@ -62,11 +62,11 @@ shortest j b reason left ne e =
 pub taken_is_shortest : TakenIsShortest
 taken_is_shortest j reason at b ne f = rw (← f.2) (shortest j b reason f.0 ne f.1)
 
-abbrev Is : Job → List ℕ → Outcome × ℕ → Type 0
+abbrev Is : Query → List ℕ → Outcome × ℕ → Type 0
 Is j input o = IsOutcome j input o.0 o.1
 
 -- a refusal for good, within the byte limit, is the outcome with its place and what it takes
-refused_is : (j : Job) (input : List ℕ) (reason : Refusal) (left : List ℕ) → reason ≢ truncated →
+refused_is : (j : Query) (input : List ℕ) (reason : Refusal) (left : List ℕ) → reason ≢ truncated →
     value_at j.registry (suc j.depth) j.ty (take j.bytes input) ≡ Err (reason, left) →
     Is j input (
       refused reason (place (take j.bytes input) left),
@@ -76,7 +76,7 @@ refused_is j input reason left ne e =
     (ne, (left, e, refl), shortest j (take j.bytes input) reason left ne e)
 
 -- where bytes are missing within the limit, more is wanted, or the input is too long
-missing_is : (j : Job) (input left : List ℕ) →
+missing_is : (j : Query) (input left : List ℕ) →
     value_at j.registry (suc j.depth) j.ty (take j.bytes input) ≡ Err (truncated, left) →
     Is j input (missing j input)
 missing_is j input left e = elim (cases_lt j.bytes (length input)) [
@@ -87,7 +87,7 @@ missing_is j input left e = elim (cases_lt j.bytes (length input)) [
 ]
 
 -- a refusal within the byte limit gives the outcome that is computed for it
-refusal_is : (j : Job) (input : List ℕ) (reason : Refusal) (left : List ℕ) →
+refusal_is : (j : Query) (input : List ℕ) (reason : Refusal) (left : List ℕ) →
     value_at j.registry (suc j.depth) j.ty (take j.bytes input) ≡ Err (reason, left) →
     Is j input (refusal j input reason left)
 refusal_is j input (basic scale.Truncated) left e = missing_is j input left e
@@ -110,7 +110,7 @@ refusal_is j input bit_sequence left e = refused_is j input bit_sequence left (�
 refusal_is j input bad_compact left e = refused_is j input bad_compact left (λ q. absurd cc) e
 
 -- what the reading within the byte limit answers gives the outcome that is computed for it
-answer_is : (j : Job) (input : List ℕ) (read : Read Refusal Tree) →
+answer_is : (j : Query) (input : List ℕ) (read : Read Refusal Tree) →
     value_at j.registry (suc j.depth) j.ty (take j.bytes input) ≡ read →
     Is j input (answer j input read)
 answer_is j input (Ok x) e =
@@ -119,7 +119,7 @@ answer_is j input (Ok x) e =
 answer_is j input (Err x) e = refusal_is j input x.0 x.1 e
 
 -- the outcome that is computed is one of the input
-computed : (j : Job) (input : List ℕ) → Is j input (outcome_of j input)
+computed : (j : Query) (input : List ℕ) → Is j input (outcome_of j input)
 unfolding outcome_of
 computed j input = answer_is j input (value_at j.registry (suc j.depth) j.ty (take j.bytes input))
     refl

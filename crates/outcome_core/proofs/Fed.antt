@@ -13,7 +13,7 @@ use Rattle.grammar_core.specs.Tree.{Tree}
 use Rattle.grammar_core.specs.Preorder.{preorder, tree_of, tree_of-preorder}
 use Rattle.grammar_core.specs.Reading.{value_at, Refusal, truncated}
 use Rattle.grammar_core.proofs.Proved.{read_is_value}
-use Rattle.outcome_core.specs.Outcome.{done, refused, Job}
+use Rattle.outcome_core.specs.Outcome.{done, refused, Query}
 use Rattle.outcome_core.specs.Outcome.{FailsAt, IsOutcome}
 use Rattle.grammar_core.specs.Preorder.{Entry}
 use Rattle.outcome_core.specs.Reported.{shown, Ending, Fault, Reported, reported, added, ending}
@@ -81,13 +81,13 @@ value_of (Ok x) y xs rest h is = (
 )
 
 -- where a run stands in the input
-pub record Here (j : Job) (input : List ℕ) (s : State) (rest : List ℕ) : Type 0 where
+pub record Here (j : Query) (input : List ℕ) (s : State) (rest : List ℕ) : Type 0 where
   pub own : List ℕ
   pub led : TurnsLead j.registry (start j.depth j.ty) s own
   pub is : take j.bytes input ≡ own ++ rest
 
 -- where bytes led to a state that wants nothing, the outcome is the value of its nodes
-pub done_here : (j : Job) (input : List ℕ) (s : State) (rest : List ℕ) (m : ℕ) →
+pub done_here : (j : Query) (input : List ℕ) (s : State) (rest : List ℕ) (m : ℕ) →
     Here j input s rest → remain j.registry s rest ≡ reported [] (Ok rest) →
     m ≡ length (take j.bytes input) →
     IsOutcome j input (done (tree_of (shown s.nodes))) (m - length rest)
@@ -111,7 +111,7 @@ done_here j input s rest m h k len =
     )
 
 -- where a state fails on bytes, those that led to it and these fail so as a value
-fault_here : (j : Job) (input : List ℕ) (s : State) (rest new : List ℕ) (e : Refusal)
+fault_here : (j : Query) (input : List ℕ) (s : State) (rest new : List ℕ) (e : Refusal)
     (left : List ℕ) (h : Here j input s rest) →
     remain j.registry s new ≡ reported [] (Err ((e, left), new)) →
     value_at j.registry (suc j.depth) j.ty (h.own ++ new) ≡ Err (e, left)
@@ -120,7 +120,7 @@ fault_here j input s rest new e left h k =
     (whole_reported j.registry j.depth j.ty s h.own new h.led ∙ ap (after s.nodes) k)
 
 -- where bytes led to a state that lacks some, the input within its limit lacks them
-pub cut_here : (j : Job) (input : List ℕ) (s : State) (rest left : List ℕ) → Here j input s rest →
+pub cut_here : (j : Query) (input : List ℕ) (s : State) (rest left : List ℕ) → Here j input s rest →
     remain j.registry s rest ≡ reported [] (Err ((truncated, left), rest)) → (at : ℕ)
     × FailsAt j truncated at (take j.bytes input)
 cut_here j input s rest left h k = (
@@ -134,7 +134,7 @@ reason_is : (x y : Refusal × List ℕ) (read : Read Refusal Tree) → read ≡ 
 reason_is x y read h k = let both = sym h ∙ k in cc
 
 -- where bytes led to a state that refuses the rest for good, the outcome is this refusal
-pub refused_here : (j : Job) (input : List ℕ) (s : State) (rest : List ℕ) (m n : ℕ) (e : Refusal)
+pub refused_here : (j : Query) (input : List ℕ) (s : State) (rest : List ℕ) (m n : ℕ) (e : Refusal)
     (left : List ℕ) → (h : Here j input s rest) → m ≡ length (take j.bytes input) → e ≢ truncated →
     Decided j.registry s rest e left n →
     remain j.registry s rest ≡ reported [] (Err ((e, left), rest)) →

@@ -7,7 +7,7 @@ use Rattle.std.proofs.lemmas.List.{take-append-le, length-append, take_all, appe
 use Rattle.std.proofs.Math.Seq.{take-append-add}
 use Rattle.grammar_core.specs.Reading.{Refusal, truncated}
 use Rattle.grammar_core.proofs.Proved.{stable}
-use Rattle.outcome_core.specs.Outcome.{done, refused, more, too_long, Job, IsShortest, FailsAt}
+use Rattle.outcome_core.specs.Outcome.{done, refused, more, too_long, Query, IsShortest, FailsAt}
 use Rattle.outcome_core.specs.Outcome.{OutcomeIsKept}
 
 -- the first bytes of two lists are those of the first and what is still wanted of the other
@@ -21,7 +21,7 @@ take_split n b p = elim (cases_lt n (length b)) [
 ]
 
 -- a refusal for good stays, with its place, where bytes are appended
-fails_more : (j : Job) (reason : Refusal) (at : ℕ) (input m : List ℕ) → reason ≢ truncated →
+fails_more : (j : Query) (reason : Refusal) (at : ℕ) (input m : List ℕ) → reason ≢ truncated →
     FailsAt j reason at input → FailsAt j reason at (input ++ m)
 fails_more j reason at input m ne f = (
   f.0 ++ m,

@@ -4,12 +4,12 @@ use Rattle.scale_core.specs.Read.{place}
 use Rattle.grammar_core.specs.Begun.{Begun}
 use Rattle.outcome_core.specs.HeldTree.{Holds, held}
 use Rattle.outcome_core.specs.HeldLaws.{MoreHolds}
-use Rattle.outcome_core.specs.Outcome.{more, Job, IsOutcome}
+use Rattle.outcome_core.specs.Outcome.{more, Query, IsOutcome}
 use Rattle.outcome_core.proofs.Missing.{missing_is_begun}
 use Rattle.outcome_core.proofs.Begins.{begun_is_missing}
 
 -- where more is wanted, the begun tree that is computed is held, within the byte limit
-forth : (j : Job) (input : List ℕ) → IsOutcome j input more (length input) →
+forth : (j : Query) (input : List ℕ) → IsOutcome j input more (length input) →
     (length input ≤ j.bytes)
     × Holds j.registry (suc j.depth) j.ty input (held j.registry (suc j.depth) j.ty input).0
     (held j.registry (suc j.depth) j.ty input).1
@@ -22,7 +22,7 @@ forth j input h =
     )
 
 -- where a begun tree is held within the byte limit, more is wanted
-back : (j : Job) (input : List ℕ) (g : Begun) (e : List ℕ) → length input ≤ j.bytes →
+back : (j : Query) (input : List ℕ) (g : Begun) (e : List ℕ) → length input ≤ j.bytes →
     Holds j.registry (suc j.depth) j.ty input g e → IsOutcome j input more (length input)
 back j input g e le h =
     let f = (begun_is_missing j.registry (suc j.depth) j.ty input g e h).0 in

@@ -17,7 +17,7 @@ use Rattle.grammar_core.specs.Begun.{Begun, begun_nodes, begun_text_bytes}
 use Rattle.outcome_core.specs.HeldTree.{Holds}
 use Rattle.outcome_core.specs.Bound.{node_bound, value_bound}
 use Rattle.outcome_core.specs.HeldLaws.{past_length, open_run, OneBegun, HeldIsBounded}
-use Rattle.outcome_core.specs.Outcome.{done, more, Job, IsOutcome}
+use Rattle.outcome_core.specs.Outcome.{done, more, Query, IsOutcome}
 use Rattle.outcome_core.proofs.Begins.{begun_is_missing}
 use Rattle.outcome_core.proofs.BegunBound.{begun_is_bounded}
 
@@ -45,7 +45,7 @@ spread n depth w = let same : suc depth ≡ depth + 1 = omega arith in
     ap (λ (k : ℕ). n * (k * (w + 1))) same ∙ sym (mul_assoc n (depth + 1) (w + 1))
 
 -- a value that is the outcome has few nodes and bytes of texts for the bytes taken
-value_le : (j : Job) (input : List ℕ) (n : ℕ) (v : Tree) → IsOutcome j input (done v) n →
+value_le : (j : Query) (input : List ℕ) (n : ℕ) (v : Tree) → IsOutcome j input (done v) n →
     (nodes v ≤ value_bound n j.depth (widest j.registry)) × (text_bytes v ≤ n)
 value_le j input n v h =
     let b = values_are_bounded j.registry (suc j.depth) j.ty v h.0 h.3 h.4 in
@@ -55,7 +55,7 @@ value_le j input n v h =
     )
 
 -- a begun tree that is held while more is wanted is small, with what is there of an open run
-begun_le : (j : Job) (input : List ℕ) (n : ℕ) → IsOutcome j input more n →
+begun_le : (j : Query) (input : List ℕ) (n : ℕ) → IsOutcome j input more n →
     (g : Begun) (e : List ℕ) (h : Holds j.registry (suc j.depth) j.ty input g e) →
     (begun_nodes g ≤ node_bound n j.depth (widest j.registry))
     × (begun_text_bytes g + open_run (layout j.registry h.2) e ≤ n)

@@ -9,7 +9,7 @@ use Rattle.grammar_core.specs.Tree.{Tree, levels}
 use Rattle.grammar_core.specs.Grammar.{Val}
 use Rattle.grammar_core.specs.Reading.{Refusal, truncated}
 use Rattle.grammar_core.proofs.Proved.{not_both, prefix_free}
-use Rattle.outcome_core.specs.Outcome.{done, refused, more, too_long, Job, IsShortest, FailsAt}
+use Rattle.outcome_core.specs.Outcome.{done, refused, more, too_long, Query, IsShortest, FailsAt}
 use Rattle.outcome_core.specs.Outcome.{EncodedIsDone, OneOutcome}
 
 -- what is encoded within the limits is decoded, and all of it is taken
@@ -25,7 +25,7 @@ shortest_is_one P input n m a b = elim (cases_lt n m) [
 ]
 
 -- a fault is no value
-done_fails : (j : Job) (input front rest : List ℕ) (v : Tree) (reason : Refusal) (at : ℕ) →
+done_fails : (j : Query) (input front rest : List ℕ) (v : Tree) (reason : Refusal) (at : ℕ) →
     input ≡ front ++ rest → Val j.registry j.ty v front → levels v ≤ suc j.depth →
     FailsAt j reason at input → ⊥
 done_fails j input front rest v reason at e h l f =
@@ -39,7 +39,7 @@ pub failed_is : (x y : Refusal × List ℕ) → failed x ≡ failed y → x ≡ 
 failed_is x y e = cc
 
 -- one fault alone
-one_fault : (j : Job) (input : List ℕ) (one two : Refusal) (n m : ℕ) → FailsAt j one n input →
+one_fault : (j : Query) (input : List ℕ) (one two : Refusal) (n m : ℕ) → FailsAt j one n input →
     FailsAt j two m input → (one ≡ two) × (n ≡ m)
 one_fault j input one two n m f g =
     let same = failed_is (one, f.0) (two, g.0) (sym f.1 ∙ g.1) in (
@@ -57,7 +57,7 @@ done_once r t n m v w input a rest b left e f h k len1 len2 =
     (ap done same.0, len1 ∙ ap length same.1 ∙ sym len2)
 
 -- an input that is refused has one reason, one place and one count of bytes taken
-refused_once : (j : Job) (input : List ℕ) (one two : Refusal) (at place n m : ℕ) →
+refused_once : (j : Query) (input : List ℕ) (one two : Refusal) (at place n m : ℕ) →
     FailsAt j one at input → FailsAt j two place input → IsShortest (FailsAt j one at) input n →
     IsShortest (FailsAt j two place) input m → (refused one at ≡ refused two place) × (n ≡ m)
 refused_once j input one two at place n m f g h k =

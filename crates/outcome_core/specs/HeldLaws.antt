@@ -11,7 +11,7 @@ use Rattle.grammar_core.specs.Tree.{Tree, nodes, text_bytes}
 use Rattle.grammar_core.specs.Begun.{Begun, begun_nodes, begun_text_bytes}
 use Rattle.outcome_core.specs.HeldTree.{Holds, held}
 use Rattle.outcome_core.specs.Bound.{node_bound, value_bound}
-use Rattle.outcome_core.specs.Outcome.{done, more, Job, IsOutcome}
+use Rattle.outcome_core.specs.Outcome.{done, more, Query, IsOutcome}
 
 -- how many bytes of an open run came after its length
 abbrev pub past_length : Read Reason ℕ → ℕ
@@ -31,7 +31,7 @@ OneBegun = (r : List TypeInfo) (room t : ℕ) (b : List ℕ) (g h : Begun) (e f 
 -- the bytes taken bound the nodes and the bytes of runs, for a complete value and while more bytes
 -- are needed
 abbrev pub HeldIsBounded : Type 0
-HeldIsBounded = (j : Job) (input : List ℕ) (n : ℕ) →
+HeldIsBounded = (j : Query) (input : List ℕ) (n : ℕ) →
     ((v : Tree) → IsOutcome j input (done v) n →
     (nodes v ≤ value_bound n j.depth (widest j.registry)) × (text_bytes v ≤ n))
     × (IsOutcome j input more n →
@@ -42,7 +42,7 @@ HeldIsBounded = (j : Job) (input : List ℕ) (n : ℕ) →
 -- more bytes are needed exactly if a begun tree is held, within the byte limit, and the tree is the
 -- computed one
 abbrev pub MoreHolds : Type 0
-MoreHolds = (j : Job) (input : List ℕ) →
+MoreHolds = (j : Query) (input : List ℕ) →
     (IsOutcome j input more (length input) → (length input ≤ j.bytes)
     × Holds j.registry (suc j.depth) j.ty input (held j.registry (suc j.depth) j.ty input).0
     (held j.registry (suc j.depth) j.ty input).1)

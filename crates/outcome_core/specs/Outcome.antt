@@ -18,7 +18,7 @@ pub data Outcome : Type 0 where
   too_long : Outcome
 
 -- what is decoded: a type of a registry, within a depth limit and a byte limit
-pub record Job : Type 0 where
+pub record Query : Type 0 where
   pub registry : List TypeInfo
   pub ty : ℕ
   pub depth : ℕ
@@ -31,12 +31,12 @@ pub record IsShortest (P : List ℕ → Type 0) (input : List ℕ) (n : ℕ) : T
   pub least : (k : ℕ) → k < n → ¬ P (take k input)
 
 -- the input is rejected with this reason at this place
-abbrev pub FailsAt : Job → Refusal → ℕ → List ℕ → Type 0
+abbrev pub FailsAt : Query → Refusal → ℕ → List ℕ → Type 0
 FailsAt j reason at input = (left : List ℕ) × Fails j.registry (suc j.depth) j.ty input reason left
     × (place input left ≡ at)
 
 -- the outcome of the input, and how many bytes of it were taken
-abbrev pub IsOutcome : Job → List ℕ → Outcome → ℕ → Type 0
+abbrev pub IsOutcome : Query → List ℕ → Outcome → ℕ → Type 0
 IsOutcome j input (done v) taken = (front rest : List ℕ) × (take j.bytes input ≡ front ++ rest)
     × Val j.registry j.ty v front × (levels v ≤ suc j.depth) × (taken ≡ length front)
 IsOutcome j input (refused reason at) taken = (reason ≢ truncated)
@@ -49,52 +49,52 @@ IsOutcome j input too_long taken = ((at : ℕ) × FailsAt j truncated at (take j
 
 -- a value that is encoded within the limits is decoded, and all its bytes are taken
 abbrev pub EncodedIsDone : Type 0
-EncodedIsDone = (j : Job) (v : Tree) (b : List ℕ) → Val j.registry j.ty v b →
+EncodedIsDone = (j : Query) (v : Tree) (b : List ℕ) → Val j.registry j.ty v b →
     levels v ≤ suc j.depth → length b ≤ j.bytes → IsOutcome j b (done v) (length b)
 
 -- an input has no more than one outcome
 abbrev pub OneOutcome : Type 0
-OneOutcome = (j : Job) (input : List ℕ) (one two : Outcome) (n m : ℕ) → IsOutcome j input one n →
+OneOutcome = (j : Query) (input : List ℕ) (one two : Outcome) (n m : ℕ) → IsOutcome j input one n →
     IsOutcome j input two m → (one ≡ two) × (n ≡ m)
 
 -- ---- the same, computed
 
 -- bytes are missing: more may come, or the input is longer than the limit
-abbrev pub missing : Job → List ℕ → Outcome × ℕ
+abbrev pub missing : Query → List ℕ → Outcome × ℕ
 missing j input = if nat_lt j.bytes (length input) then (too_long, j.bytes) else
     (more, length input)
 
-abbrev pub refusal : Job → List ℕ → Refusal → List ℕ → Outcome × ℕ
+abbrev pub refusal : Query → List ℕ → Refusal → List ℕ → Outcome × ℕ
 refusal j input (basic scale.Truncated) left = missing j input
 refusal j input reason left = (
   refused reason (place (take j.bytes input) left),
   value_taken j.registry (suc j.depth) j.ty (take j.bytes input),
 )
 
-abbrev pub answer : Job → List ℕ → Read Refusal Tree → Outcome × ℕ
+abbrev pub answer : Query → List ℕ → Read Refusal Tree → Outcome × ℕ
 answer j input (Ok x) = (done x.0, place (take j.bytes input) x.1)
 answer j input (Err e) = refusal j input e.0 e.1
 
 -- the outcome of the input, and how many bytes of it are taken
-unfoldable pub outcome_of : Job → List ℕ → Outcome × ℕ
+unfoldable pub outcome_of : Query → List ℕ → Outcome × ℕ
 outcome_of j input = answer j input (value_at j.registry (suc j.depth) j.ty (take j.bytes input))
 
 -- every input has exactly one outcome, the computed one
 abbrev pub OutcomeIsComputed : Type 0
-OutcomeIsComputed = (j : Job) (input : List ℕ) →
+OutcomeIsComputed = (j : Query) (input : List ℕ) →
     IsOutcome j input (outcome_of j input).0 (outcome_of j input).1
     × ((one : Outcome) (n : ℕ) → IsOutcome j input one n → outcome_of j input ≡ (one, n))
 
 -- the bytes taken of an input that is rejected for good: the shortest front that is rejected with
 -- this reason at this place
 abbrev pub TakenIsShortest : Type 0
-TakenIsShortest = (j : Job) (reason : Refusal) (at : ℕ) (input : List ℕ) → reason ≢ truncated →
+TakenIsShortest = (j : Query) (reason : Refusal) (at : ℕ) (input : List ℕ) → reason ≢ truncated →
     FailsAt j reason at input →
     IsShortest (FailsAt j reason at) input (value_taken j.registry (suc j.depth) j.ty input)
 
 -- once the outcome is decided, further bytes don't change it
 abbrev pub OutcomeIsKept : Type 0
-OutcomeIsKept = (j : Job) (input later : List ℕ) (one : Outcome) (n : ℕ) → one ≢ more →
+OutcomeIsKept = (j : Query) (input later : List ℕ) (one : Outcome) (n : ℕ) → one ≢ more →
     IsOutcome j input one n → IsOutcome j (input ++ later) one n
 
 -- ---- what is taken, by the fault alone

@@ -13,4 +13,4 @@ pub mod Steady
 pub mod SteadyMetadata
 pub mod Whole
 pub mod Positions
-pub mod Rows
+pub mod Examples

@@ -3,7 +3,7 @@ pub mod Bytes
 pub mod Gives
 pub mod Laws
 pub mod Reading
-pub mod Rows
+pub mod Examples
 pub mod Spelling
 pub mod Splits
 pub mod Names

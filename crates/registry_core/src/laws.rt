@@ -4,7 +4,7 @@ ghost use Rattle.types_core.specs.Fits.{FitsRegistry};
 ghost use Rattle.registry_core.specs.Laws.{FaultIsKept, FaultIsWithin, FitsMetadata, FrontIsCut};
 ghost use Rattle.registry_core.specs.Laws.{ReadIsSpelled, SpelledIsRead, metadata_of};
 ghost use Rattle.registry_core.specs.Reading.{metadata_at, registry_at};
-ghost use Rattle.registry_core.specs.Rows.{FaultRows, MetadataRows, ReadRows};
+ghost use Rattle.registry_core.specs.Examples.{FaultRows, MetadataRows, ReadRows};
 ghost use Rattle.registry_core.specs.Spelling.{spelling};
 ghost use Rattle.registry_core.specs.Splits.{DefinitionFaults, PartFaults, PieceFaults};
 ghost use Rattle.registry_core.specs.Splits.{RegistryFaults};
@@ -54,7 +54,7 @@ pub fn next_part_fails()
 
 /// Proves examples of the definitions with bytes known from outside: registries that are read or
 /// rejected.
-pub fn worked_rows()
+pub fn worked_examples()
     ensures read { ReadRows }
     ensures faults { FaultRows }
     ensures metadata { MetadataRows }

@@ -9,8 +9,8 @@ use Rattle.types_core.specs.declared.type_info.TypeInfo.{TypeInfo}
 use Rattle.grammar_core.specs.Tree.{Tree}
 use Rattle.node_core.specs.Shown.{Seen}
 use Rattle.decode_core.specs.Decoding.{FinishesDecoder, IsEnded}
-use Rattle.outcome_core.specs.Outcome.{Job, Outcome, done, refused, more, too_long, IsOutcome}
-use Rattle.decode_core.specs.Streaming.{Forbids, IsOfJob, Joins, Trails}
+use Rattle.outcome_core.specs.Outcome.{Query, Outcome, done, refused, more, too_long, IsOutcome}
+use Rattle.decode_core.specs.Streaming.{Forbids, IsOfQuery, Joins, Trails}
 use Rattle.decode_core.specs.declared.fault.DecodeFault.{DecodeFault}
 use Rattle.machine_core.specs.declared.reason.DecodeReason.{DecodeReason}
 use Rattle.machine_core.specs.declared.reason.DecodeReason.TheVariants as reason
@@ -23,12 +23,12 @@ use Rattle.scale_calls.specs.Refused.{opening_refusal, pieces_refusal, value_ref
 use Rattle.scale_calls.specs.Values.{RefusesValue, value_in, whole}
 
 -- the value that an outcome gives to so many bytes
-abbrev value_by : Job → ℕ → Outcome × ℕ → Option Seen
+abbrev value_by : Query → ℕ → Outcome × ℕ → Option Seen
 value_by j len o =
     option_map (λ v. record { types = j.registry; ty = j.ty; tree = v }) (whole len o.0 o.1)
 
 -- the value that all bytes spell is what their outcome gives
-pub by_outcome : (j : Job) (b : List ℕ) (one : Outcome) (n : ℕ) → IsOutcome j b one n →
+pub by_outcome : (j : Query) (b : List ℕ) (one : Outcome) (n : ℕ) → IsOutcome j b one n →
     value_in j b ≡ value_by j (length b) (one, n)
 by_outcome j b one n h = ap (value_by j (length b)) ((outcome_is_computed j b).1 one n h)
 
@@ -43,7 +43,7 @@ seen_is : (types : List TypeInfo) (id : ℕ) (v : Seen) → v.types ≡ types �
 seen_is types id v a b = rw (← a, ← b) refl
 
 -- all the bytes are those of the value
-pub spelled : (j : Job) (b : List ℕ) (v : Seen) (n : ℕ) → n ≡ length b → IsOfJob j v →
+pub spelled : (j : Query) (b : List ℕ) (v : Seen) (n : ℕ) → n ≡ length b → IsOfQuery j v →
     IsOutcome j b (done v.tree) n → value_in j b ≡ Some v
 spelled j b v n all of h = by_outcome j b (done v.tree) n h
     ∙ ap (option_map (λ t. record { types = j.registry; ty = j.ty; tree = t }))
@@ -51,21 +51,21 @@ spelled j b v n all of h = by_outcome j b (done v.tree) n h
     ∙ ap Some (seen_is j.registry j.ty v of.0 of.1)
 
 -- some of them are not
-pub not_all : (j : Job) (b : List ℕ) (v : Tree) (n : ℕ) → (n ≡ length b → ⊥) →
+pub not_all : (j : Query) (b : List ℕ) (v : Tree) (n : ℕ) → (n ≡ length b → ⊥) →
     IsOutcome j b (done v) n → value_in j b ≡ None
 not_all j b v n some h = by_outcome j b (done v) n h
     ∙ ap (option_map (λ t. record { types = j.registry; ty = j.ty; tree = t }))
     (whole_where (length b) n v false (ne_eqb n (length b) some))
 
 -- a fault of the bytes, which is no allocation failure
-ended : (j : Job) (b : List ℕ) (f : DecodeFault) (n : ℕ) → f.reason ≢ reason.OutOfMemory →
+ended : (j : Query) (b : List ℕ) (f : DecodeFault) (n : ℕ) → f.reason ≢ reason.OutOfMemory →
     IsEnded j b f n → value_in j b ≡ None
 ended j b f n other (inl is) = absurd (other (ap (λ (x : DecodeFault). x.reason) is.0))
 ended j b f n other (inr (inl h)) = by_outcome j b too_long n h.1
 ended j b f n other (inr (inr h)) = by_outcome j b (refused h.0 h.1) n h.3
 
 -- bytes that a decoder refuses, and not for an allocation failure, spell no value
-pub faulted : (j : Job) (b : List ℕ) (f : DecodeFault) → f.reason ≢ reason.OutOfMemory →
+pub faulted : (j : Query) (b : List ℕ) (f : DecodeFault) → f.reason ≢ reason.OutOfMemory →
     FinishesDecoder j b (Err f) → value_in j b ≡ None
 faulted j b f other (inl h) = by_outcome j b more (length b) h.1
 faulted j b f other (inr h) = ended j b f h.0 other h.1
@@ -73,13 +73,13 @@ faulted j b f other (inr h) = ended j b f h.0 other h.1
 -- ---- what a refusal says
 
 -- a fault that is not an allocation failure is reported of the bytes, which spell no value
-reported_fault : (forbidden : Option OpenFault) (j : Job) (b : List ℕ) (f : DecodeFault) →
+reported_fault : (forbidden : Option OpenFault) (j : Query) (b : List ℕ) (f : DecodeFault) →
     forbidden ≡ None → f.reason ≢ reason.OutOfMemory → FinishesDecoder j b (Err f) →
     (forbidden ≡ None) × (value_in j b ≡ None) × FinishesDecoder j b (Err f)
 reported_fault forbidden j b f none other h = (none, faulted j b f other h, h)
 
 -- a decoder's fault is why the bytes are refused, whatever its reason
-by_reason : (r : DecodeReason) (forbidden : Option OpenFault) (j : Job) (b : List ℕ)
+by_reason : (r : DecodeReason) (forbidden : Option OpenFault) (j : Query) (b : List ℕ)
     (f : DecodeFault) → r ≡ f.reason → forbidden ≡ None → FinishesDecoder j b (Err f) →
     RefusesValue forbidden j b (value_refusal_by r f)
 by_reason reason.OutOfMemory forbidden j b f is none h = tt
@@ -87,7 +87,7 @@ by_reason _ forbidden j b f is none h =
     reported_fault forbidden j b f none (λ e. let bad = is ∙ e in cc) h
 
 -- what forbids a decoder is why the bytes are refused
-by_opening : (forbidden : Option OpenFault) (j : Job) (b : List ℕ) (f : OpenFault) →
+by_opening : (forbidden : Option OpenFault) (j : Query) (b : List ℕ) (f : OpenFault) →
     Forbids forbidden f → RefusesValue forbidden j b (opening_refusal f)
 by_opening forbidden j b opening.UnknownType (inl is) = is
 by_opening forbidden j b opening.UnknownType (inr is) = let bad = is.0 in absurd cc
@@ -96,22 +96,22 @@ by_opening forbidden j b opening.LimitOutOfRange (inr is) = let bad = is.0 in ab
 by_opening forbidden j b opening.OutOfMemory h = tt
 
 -- what one piece is refused for
-pub refused_by : (forbidden : Option OpenFault) (j : Job) (b : List ℕ) (f : PiecesFault) →
+pub refused_by : (forbidden : Option OpenFault) (j : Query) (b : List ℕ) (f : PiecesFault) →
     Joins forbidden j b (Err f) → RefusesValue forbidden j b (pieces_refusal f)
 refused_by forbidden j b (pieces.Open f) h = by_opening forbidden j b f h
 refused_by forbidden j b (pieces.Decode f) h = by_reason f.reason forbidden j b f refl h.0 h.1
 
 -- the pieces are one, and nothing follows it
-pub one_piece : (forbidden : Option OpenFault) (j : Job) (b : List ℕ) (f : PiecesFault) →
+pub one_piece : (forbidden : Option OpenFault) (j : Query) (b : List ℕ) (f : PiecesFault) →
     Joins forbidden j (b ++ []) (Err f) → RefusesValue forbidden j b (pieces_refusal f)
 one_piece forbidden j b f h = refused_by forbidden j b f
     (subst (λ x. Joins forbidden j x (Err f)) (append-nil b) h)
 
-abbrev JoinsTo : Option OpenFault → Job → Seen → ℕ → List ℕ → Type 0
+abbrev JoinsTo : Option OpenFault → Query → Seen → ℕ → List ℕ → Type 0
 JoinsTo forbidden j v n joined = Joins forbidden j joined (Ok (v, n))
 
 -- a value that takes all the bytes is the one that they spell
-pub one_value : (forbidden : Option OpenFault) (j : Job) (b : List ℕ) (v : Seen) (n : ℕ) →
+pub one_value : (forbidden : Option OpenFault) (j : Query) (b : List ℕ) (v : Seen) (n : ℕ) →
     n ≡ length b → JoinsTo forbidden j v n (b ++ []) →
     (forbidden ≡ None) × (value_in j b ≡ Some v)
 one_value forbidden j b v n all h =
@@ -130,7 +130,7 @@ within n limit b front rest is own =
     omega (arith, own, ap length is, length-append front rest, length-take limit b)
 
 -- a value that does not take all the bytes is followed by others, and all spell no value
-pub one_front : (forbidden : Option OpenFault) (j : Job) (b : List ℕ) (v : Seen) (n : ℕ) →
+pub one_front : (forbidden : Option OpenFault) (j : Query) (b : List ℕ) (v : Seen) (n : ℕ) →
     (n ≡ length b → ⊥) → JoinsTo forbidden j v n (b ++ []) →
     (forbidden ≡ None) × (value_in j b ≡ None) × Trails j n b
 one_front forbidden j b v n some h =

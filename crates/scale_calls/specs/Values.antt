@@ -4,7 +4,7 @@ use Rattle.std.specs.Prelude.{option_map, Result, Ok, Err}
 use Rattle.grammar_core.specs.Tree.{Tree}
 use Rattle.node_core.specs.Shown.{Seen}
 use Rattle.json_core.specs.Json.{json_text}
-use Rattle.outcome_core.specs.Outcome.{Job, Outcome, done, refused, more, too_long, outcome_of}
+use Rattle.outcome_core.specs.Outcome.{Query, Outcome, done, refused, more, too_long, outcome_of}
 use Rattle.decode_core.specs.Decoding.{FinishesDecoder}
 use Rattle.decode_core.specs.Streaming.{Trails}
 use Rattle.decode_core.specs.declared.fault.OpenFault.{OpenFault}
@@ -20,13 +20,13 @@ whole len more taken = None
 whole len too_long taken = None
 
 -- the value of the job's type that all the bytes spell
-abbrev pub value_in : Job → List ℕ → Option Seen
+abbrev pub value_in : Query → List ℕ → Option Seen
 value_in j bytes = option_map (λ v. record { types = j.registry; ty = j.ty; tree = v })
     (whole (length bytes) (outcome_of j bytes).0 (outcome_of j bytes).1)
 
 -- why bytes are rejected: the type or a limit, a fault of the bytes, or bytes that follow the
 -- value, unless an allocation failed
-abbrev pub RefusesValue : Option OpenFault → Job → List ℕ → ValueRefusal → Type 0
+abbrev pub RefusesValue : Option OpenFault → Query → List ℕ → ValueRefusal → Type 0
 RefusesValue forbidden j b refusal.UnknownType = forbidden ≡ Some opening.UnknownType
 RefusesValue forbidden j b refusal.LimitOutOfRange = forbidden ≡ Some opening.LimitOutOfRange
 RefusesValue forbidden j b (refusal.Fault f) = (forbidden ≡ None) × (value_in j b ≡ None)
@@ -36,12 +36,12 @@ RefusesValue forbidden j b (refusal.TrailingBytes at) = (forbidden ≡ None) × 
 RefusesValue forbidden j b refusal.Memory = Unit {0}
 
 -- the value, or why there is none
-abbrev pub ReadsValue : Option OpenFault → Job → List ℕ → Result Seen ValueRefusal → Type 0
+abbrev pub ReadsValue : Option OpenFault → Query → List ℕ → Result Seen ValueRefusal → Type 0
 ReadsValue forbidden j b (Ok v) = (forbidden ≡ None) × (value_in j b ≡ Some v)
 ReadsValue forbidden j b (Err e) = RefusesValue forbidden j b e
 
 -- the text of its JSON, whose bytes `bytes_of` gives, or why there is none
-abbrev pub ShowsValue : {X : Type 0} → (X → List ℕ) → Option OpenFault → Job → List ℕ →
+abbrev pub ShowsValue : {X : Type 0} → (X → List ℕ) → Option OpenFault → Query → List ℕ →
     Result X ValueRefusal → Type 0
 ShowsValue bytes_of forbidden j b (Ok text) = (forbidden ≡ None)
     × (option_map json_text (value_in j b) ≡ Some (bytes_of text))

@@ -2,7 +2,7 @@
 
 ghost use Rattle.std.specs.Prelude.{string_bytes};
 ghost use Rattle.decode_core.specs.Decoding.{opening_fault};
-ghost use Rattle.decode_core.specs.Streaming.{job_of};
+ghost use Rattle.decode_core.specs.Streaming.{query_of};
 ghost use Rattle.scale_calls.specs.Values.{ReadsValue, ShowsValue};
 
 use crate::refusal::ValueRefusal;
@@ -33,7 +33,7 @@ pub fn read_value<'r, A: Allocator + Clone>(
     bytes: &[u8],
 ) -> Result<Value<'r, A>, ValueRefusal>
     ensures { ReadsValue (opening_fault checked.now.types id limits)
-        (job_of checked.now.types id limits) bytes.now result }
+        (query_of checked.now.types id limits) bytes.now result }
 {
     match decode_pieces(alloc, checked, TypeId(id), limits, &[bytes]) {
         Ok((value, taken)) => {
@@ -60,7 +60,7 @@ pub fn value_text(
     bytes: &[u8],
 ) -> Result<String, ValueRefusal>
     ensures { ShowsValue string_bytes (opening_fault checked.now.types id limits)
-        (job_of checked.now.types id limits) bytes.now result }
+        (query_of checked.now.types id limits) bytes.now result }
 {
     let value = read_value(alloc, checked, id, limits, bytes)?;
     Ok(json_text(alloc, alloc, &value)?)

@@ -8,4 +8,4 @@ pub mod ReadModes
 pub mod ReadTexts
 pub mod Results
 pub mod Spellings
-pub mod Rows
+pub mod Examples

@@ -3,7 +3,7 @@ pub mod Compact
 pub mod Laws
 pub mod Number
 pub mod Read
-pub mod Rows
+pub mod Examples
 pub mod Sending
 pub mod Stream
 pub mod Text

@@ -4,7 +4,7 @@
 ghost use Rattle.scale_core.specs.Laws.{CompactIsPrefixFree, CompactIsReadAgain, CompactIsSpelled};
 ghost use Rattle.scale_core.specs.Laws.{NumberIsSpelled, SignedIsSpelled};
 ghost use Rattle.scale_core.specs.Laws.{TextIsPrefixFree, TextIsReadAgain, TextIsSpelled};
-ghost use Rattle.scale_core.specs.Rows.{CompactRows, SpellingRows, TextRows};
+ghost use Rattle.scale_core.specs.Examples.{CompactRows, SpellingRows, TextRows};
 
 /// Proves that no compact integer's encoding is a proper prefix of another's with the same target.
 ///
@@ -49,7 +49,7 @@ pub fn fixed_width_is_spelled()
 
 /// Proves examples of the definitions with bytes known from outside: encodings, and readings with
 /// their errors.
-pub fn worked_rows()
+pub fn worked_examples()
     ensures spellings { SpellingRows }
     ensures compacts { CompactRows }
     ensures texts { TextRows }

@@ -6,9 +6,9 @@ use Rattle.std.specs.Prelude.{IfSome, option_and_then, ⊤}
 use Rattle.types_core.specs.declared.type_info.TypeInfo.{TypeInfo}
 use Rattle.limits_core.specs.declared.limits.Limits.{Limits}
 use Rattle.node_core.specs.Shown.{Seen}
-use Rattle.outcome_core.specs.Outcome.{Job}
+use Rattle.outcome_core.specs.Outcome.{Query}
 use Rattle.decode_core.specs.Decoding.{opening_fault}
-use Rattle.decode_core.specs.Streaming.{StopsOpen, Streams, job_of}
+use Rattle.decode_core.specs.Streaming.{StopsOpen, Streams, query_of}
 use Rattle.decode_core.specs.declared.fault.OpenFault.{OpenFault}
 use Rattle.decode_core.specs.declared.pieces.PiecesFault.TheVariants as pieces
 use Rattle.decode_core.specs.declared.stream.StreamFault.{StreamFault}
@@ -32,12 +32,12 @@ where_known (Some b) P Q f h = f b h
 -- ---- bytes that are refused
 
 -- a file has bytes that are refused for this
-abbrev Refuses : Bool → Job → Option OpenFault → ValueRefusal → List ℕ → Type 0
+abbrev Refuses : Bool → Query → Option OpenFault → ValueRefusal → List ℕ → Type 0
 Refuses hex j forbidden e file = (b : List ℕ) × (value_bytes hex file ≡ Some b)
     × RefusesValue forbidden j b e
 
 -- with status 1 it has no value
-no_value : (hex : Bool) (j : Job) (forbidden : Option OpenFault) (e : ValueRefusal)
+no_value : (hex : Bool) (j : Query) (forbidden : Option OpenFault) (e : ValueRefusal)
     (file : List ℕ) → Refuses hex j forbidden e file → status_of (refusal_of_value e) ≡ 1 →
     file_value hex j file ≡ None
 no_value hex j forbidden (call.Fault f) file h one = ap (option_and_then (value_in j)) h.1 ∙ h.2.1
@@ -46,7 +46,7 @@ no_value hex j forbidden (call.TrailingBytes at) file h one =
 no_value hex j forbidden _ file h one = absurd cc
 
 -- the refusal is reported of it
-reports : (hex : Bool) (j : Job) (forbidden : Option OpenFault) (e : ValueRefusal)
+reports : (hex : Bool) (j : Query) (forbidden : Option OpenFault) (e : ValueRefusal)
     (known : Option (List ℕ)) → IfSome known (Refuses hex j forbidden e) →
     ReportsFile hex j known (refusal_of_value e)
 reports hex j forbidden (call.Fault f) known h =
@@ -61,7 +61,7 @@ not_device (call.Fault f) is = cc
 not_device _ is = cc
 
 -- the bytes of a text of digits that was gathered are its file's, and so is their refusal
-pub hex_reports : (hex : Bool) (j : Job) (forbidden : Option OpenFault) (e : ValueRefusal)
+pub hex_reports : (hex : Bool) (j : Query) (forbidden : Option OpenFault) (e : ValueRefusal)
     (known : Option (List ℕ)) (old new text b : List ℕ) → hex ≡ true → old ≡ [] →
     IfSome known (λ file. new ≡ old ++ file) → text ≡ new → hex_bytes text ≡ Ok b →
     RefusesValue forbidden j b e → ReportsFile hex j known (refusal_of_value e)
@@ -78,11 +78,11 @@ hex_reports hex j forbidden e known old new text b is none all same holds h =
 pub within : (fails : List ℕ → Type 0) (left : Option (List ℕ)) (id : ℕ) (types : List TypeInfo)
     (f : StreamFault) (known : Option (List ℕ)) (l m : Limits) → l ≡ m →
     IfSome known
-    (λ b. Streams (opening_fault types id l) (job_of types id l) fails b left (Err f)) →
+    (λ b. Streams (opening_fault types id l) (query_of types id l) fails b left (Err f)) →
     IfSome known
-    (λ b. Streams (opening_fault types id m) (job_of types id m) fails b left (Err f))
+    (λ b. Streams (opening_fault types id m) (query_of types id m) fails b left (Err f))
 within fails left id types f known l m is h = subst (λ (x : Limits). IfSome known
-    (λ b. Streams (opening_fault types id x) (job_of types id x) fails b left (Err f))) is h
+    (λ b. Streams (opening_fault types id x) (query_of types id x) fails b left (Err f))) is h
 
 -- why they are refused, where no read failed
 abbrev read_refusal : StreamFault → ValueRefusal
@@ -92,7 +92,7 @@ read_refusal (stream.TrailingBytes at) = call.TrailingBytes at
 read_refusal stream.Device = call.Memory
 
 -- so they are refused
-stream_refuses : (fails : List ℕ → Type 0) (left : Option (List ℕ)) (hex : Bool) (j : Job)
+stream_refuses : (fails : List ℕ → Type 0) (left : Option (List ℕ)) (hex : Bool) (j : Query)
     (forbidden : Option OpenFault) (f : StreamFault) (b : List ℕ) → hex ≡ false →
     Streams forbidden j fails b left (Err f) → Refuses hex j forbidden (read_refusal f) b
 stream_refuses fails left hex j forbidden (stream.Open f) b raw h =
@@ -111,7 +111,7 @@ stream_refuses fails left hex j forbidden (stream.TrailingBytes at) b raw h = (
 stream_refuses fails left hex j forbidden stream.Device b raw h = (b, rw raw refl, tt)
 
 -- with status 1 they spell no value
-pub stream_no_value : (fails : List ℕ → Type 0) (left : Option (List ℕ)) (hex : Bool) (j : Job)
+pub stream_no_value : (fails : List ℕ → Type 0) (left : Option (List ℕ)) (hex : Bool) (j : Query)
     (forbidden : Option OpenFault) (f : StreamFault) (known : Option (List ℕ)) → hex ≡ false →
     IfSome known (λ b. Streams forbidden j fails b left (Err f)) →
     IfSome known (λ b. status_of (refusal_of_stream f) ≡ 1 → file_value hex j b ≡ None)
@@ -122,7 +122,7 @@ stream_no_value fails left hex j forbidden f known raw h =
     (stream_refuses fails left hex j forbidden f b raw x)) h
 
 -- the refusal is reported of them
-pub stream_reports : (fails : List ℕ → Type 0) (left : Option (List ℕ)) (hex : Bool) (j : Job)
+pub stream_reports : (fails : List ℕ → Type 0) (left : Option (List ℕ)) (hex : Bool) (j : Query)
     (forbidden : Option OpenFault) (f : StreamFault) (known : Option (List ℕ)) → hex ≡ false →
     IfSome known (λ b. Streams forbidden j fails b left (Err f)) →
     ReportsFile hex j known (refusal_of_stream f)
@@ -136,13 +136,13 @@ is_device stream.Device is = refl
 is_device f is = absurd (not_device (read_refusal f) is)
 
 -- and then the bytes that were read before leave the answer open
-pub stream_stops : (fails : List ℕ → Type 0) (known left : Option (List ℕ)) (hex : Bool) (j : Job)
+pub stream_stops : (fails : List ℕ → Type 0) (known left : Option (List ℕ)) (hex : Bool) (j : Query)
     (f : StreamFault) → hex ≡ false → refusal_of_stream f ≡ refusal.ValueDevice →
     (f ≡ stream.Device → StopsOpen j fails known left) → StopsFile hex j fails known left
 stream_stops fails known left hex j f raw failed h = rw raw (h (is_device f failed))
 
 -- a value that a reader gives is the one that its bytes spell
-pub stream_value : (hex : Bool) (j : Job) (forbidden : Option OpenFault) (v : Seen)
+pub stream_value : (hex : Bool) (j : Query) (forbidden : Option OpenFault) (v : Seen)
     (known : Option (List ℕ)) → hex ≡ false →
     IfSome known (λ b. Streams forbidden j (λ x. ⊤) b None (Ok v)) →
     IfSome known (λ b. file_value hex j b ≡ Some v)

@@ -14,7 +14,7 @@ use Rattle.scale_tool.specs.declared.refusal.Refusal.{Refusal}
 use Rattle.scale_tool.specs.declared.refusal.Refusal.TheVariants as refusal
 
 -- a job: the type at a position, this depth limit, and a byte limit of 16777216
-abbrev pub decoding : ℕ → ℕ → List TypeInfo → decoder.Job
+abbrev pub decoding : ℕ → ℕ → List TypeInfo → decoder.Query
 decoding id depth types = record { registry = types; ty = id; depth = depth; bytes = 16777216 }
 
 abbrev pub reported : Result (List ℕ) HexFault → Option (List ℕ)
@@ -27,7 +27,7 @@ value_bytes true file = reported (hex_bytes file)
 value_bytes false file = Some file
 
 -- the value that these bytes spell
-abbrev pub file_value : Bool → decoder.Job → List ℕ → Option Seen
+abbrev pub file_value : Bool → decoder.Query → List ℕ → Option Seen
 file_value hex j file = option_and_then (value_in j) (value_bytes hex file)
 
 -- the value, or a refusal; if it rejects the input, there is no value
@@ -37,7 +37,7 @@ ReadsFile value (Err e) = IsRejected e → value ≡ None
 
 -- what a refusal says about a value's file if its bytes are known, unless the device or an
 -- allocation failed: a fault of its digits, a fault of its bytes, or bytes that follow the value
-abbrev pub ReportsFile : Bool → decoder.Job → Option (List ℕ) → Refusal → Type 0
+abbrev pub ReportsFile : Bool → decoder.Query → Option (List ℕ) → Refusal → Type 0
 ReportsFile hex j known (refusal.Hex fault) =
     IfSome known (λ file. (hex ≡ true) × (hex_bytes file ≡ Err fault))
 ReportsFile hex j known (refusal.Value fault) = IfSome known (λ file. (b : List ℕ)
@@ -50,7 +50,7 @@ ReportsFile hex j known _ = ⊥
 
 -- a read of a value's file failed, and the bytes before it left the answer open; digits always do,
 -- since all are read before any answer
-abbrev pub StopsFile : Bool → decoder.Job → (List ℕ → Type 0) → Option (List ℕ) →
+abbrev pub StopsFile : Bool → decoder.Query → (List ℕ → Type 0) → Option (List ℕ) →
     Option (List ℕ) → Type 0
 StopsFile true j fails known left = (b : List ℕ) × fails b
 StopsFile false j fails known left = StopsOpen j fails known left

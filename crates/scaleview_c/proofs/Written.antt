@@ -4,7 +4,7 @@ use Rattle.limits_core.specs.declared.limits.Limits.{Limits}
 use Rattle.node_core.specs.Shown.{Seen}
 use Rattle.json_core.specs.Json.{json_text}
 use Rattle.decode_core.specs.Decoding.{opening_fault}
-use Rattle.decode_core.specs.Streaming.{job_of}
+use Rattle.decode_core.specs.Streaming.{query_of}
 use Rattle.scale_calls.specs.Values.{ReadsValue}
 use Rattle.scale_calls.specs.declared.refusal.ValueRefusal.TheVariants as value
 use Rattle.scaleview_c.specs.Calls.{Leaves, WritesJson, WritesUnlessMemory}
@@ -20,7 +20,7 @@ no_memory o id limits b old new a left = (Err value.Memory, tt, left)
 -- the JSON of the value that the bytes spell is written, unless an allocation failed
 pub value_written : (o : Opened) (id : ℕ) (limits : Limits) (b old new : List ℕ) (v : Seen)
     (a : Answer) →
-    ReadsValue (opening_fault o.checked.types id limits) (job_of o.checked.types id limits) b
+    ReadsValue (opening_fault o.checked.types id limits) (query_of o.checked.types id limits) b
     (Ok v) →
     WritesUnlessMemory (json_text v) old new a → WritesJson o id limits b old new a
 value_written o id limits b old new v a read (inl left) = no_memory o id limits b old new a left

@@ -5,10 +5,10 @@ use Rattle.limits_core.specs.declared.limits.Limits.{Limits}
 use Rattle.grammar_core.specs.Tree.{nodes, text_bytes as tree_text_bytes}
 use Rattle.json_core.specs.Json.{json_text}
 use Rattle.json_core.specs.Printed.{IsInFront}
-use Rattle.outcome_core.specs.Outcome.{Job}
+use Rattle.outcome_core.specs.Outcome.{Query}
 use Rattle.decode_core.specs.Decoding.{AnswersPiece, FinishesDecoder, Led, first_of_all}
 use Rattle.decode_core.specs.Decoding.{node_count, opening_fault, text_bytes}
-use Rattle.decode_core.specs.Streaming.{job_of}
+use Rattle.decode_core.specs.Streaming.{query_of}
 use Rattle.decode_core.specs.declared.decoder.Progress.{Progress}
 use Rattle.decode_core.specs.declared.fault.DecodeFault.{DecodeFault}
 use Rattle.decode_core.specs.declared.fault.OpenFault.{OpenFault}
@@ -99,7 +99,7 @@ WritesResult (Err e) old new a = Leaves old new (value_answer e) a
 abbrev pub WritesJson : Opened → ℕ → Limits → List ℕ → List ℕ → List ℕ → Answer → Type 0
 WritesJson o id limits b old new a = (r : Result (List ℕ) ValueRefusal)
     × ShowsValue (λ (text : List ℕ). text) (opening_fault o.checked.types id limits)
-    (job_of o.checked.types id limits) b r × WritesResult r old new a
+    (query_of o.checked.types id limits) b r × WritesResult r old new a
 
 abbrev pub WritesValue : Option Resource → ℕ → Limits → List ℕ → List ℕ → List ℕ → Answer → Type 0
 WritesValue (Some (held.Registry o)) id limits b old new a = WritesJson o id limits b old new a
@@ -198,7 +198,7 @@ Reports count (Some (held.Registry o)) new a = IsNone (Some (held.Registry o)) n
 Reports count None new a = IsNone None new a
 
 -- the end of these bytes: their value, or why there is none, unless an allocation failed
-abbrev pub EndsAs : Job → List ℕ → Stage → Type 0
+abbrev pub EndsAs : Query → List ℕ → Stage → Type 0
 EndsAs j b (stage.Complete v) = FinishesDecoder j b (Ok v)
 EndsAs j b (stage.Refused (value.Fault f)) = FinishesDecoder j b (Err f)
 EndsAs j b (stage.Refused value.Memory) = Unit {0}
@@ -207,7 +207,7 @@ EndsAs j b (stage.Decoding d) = ⊥
 
 -- a value in progress is ended, and one that has ended stays
 abbrev pub Ends : Stage → Stage → Type 0
-Ends (stage.Decoding d) new = (b : List ℕ) → Led d b → EndsAs d.job b new
+Ends (stage.Decoding d) new = (b : List ℕ) → Led d b → EndsAs d.query b new
 Ends (stage.Complete v) new = new ≡ stage.Complete v
 Ends (stage.Refused e) new = new ≡ stage.Refused e
 

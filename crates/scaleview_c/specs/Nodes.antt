@@ -9,7 +9,7 @@ use Rattle.node_core.specs.Encoding.{IsEncoding}
 use Rattle.node_core.specs.Shown.{Seen}
 use Rattle.value_core.specs.Refusals.{build_opening_fault}
 use Rattle.decode_core.specs.Decoding.{opening_fault}
-use Rattle.decode_core.specs.Streaming.{job_of}
+use Rattle.decode_core.specs.Streaming.{query_of}
 use Rattle.record_core.specs.Records.{nodes_of, pool_of, tree_read}
 use Rattle.record_core.specs.Replayed.{ReadsRecords, ended, replay, start_with}
 use Rattle.record_core.specs.Written.{WritesNodes}
@@ -64,7 +64,7 @@ PutsResult (Err e) old new old_pool pool a =
 abbrev pub WritesValueNodes : Opened → ℕ → Limits → List ℕ → List Record → List Record → List ℕ →
     List ℕ → Answer → Type 0
 WritesValueNodes o id limits b old new old_pool pool a = (r : Result Seen ValueRefusal)
-    × ReadsValue (opening_fault o.checked.types id limits) (job_of o.checked.types id limits) b r
+    × ReadsValue (opening_fault o.checked.types id limits) (query_of o.checked.types id limits) b r
     × PutsResult r old new old_pool pool a
 
 abbrev pub DecodesNodes : Option Resource → ℕ → Limits → List ℕ → List Record → List Record →

@@ -13,7 +13,7 @@ use std::cmp::Ordering;
 use std::collections::BTreeMap;
 
 /// The most fields that are few: inserting so many names into a list costs less than a map.
-const FEW: usize = 8;
+const FEW_FIELDS: usize = 8;
 
 /// How the values of fields are shown.
 #[derive(Debug, Drop)]
@@ -54,12 +54,12 @@ fn place_among(names: &[(&str, u32)], name: &str) -> usize
 
 /// Returns the positions of few fields in the order of their names' bytes, if each has a name and
 /// all names differ. It inserts the names into a sorted list, and allocates nothing.
-fn order_of_few(fields: &[Field]) -> Option<ArrayVec<u32, FEW>>
-    requires { length fields.now ≤ FEW }
+fn order_of_few(fields: &[Field]) -> Option<ArrayVec<u32, FEW_FIELDS>>
+    requires { length fields.now ≤ FEW_FIELDS }
     ensures { option_map (λ v. v.items) result
         ≡ option_map positions_of (order_from fields.now 0 []) }
 {
-    let mut names: ArrayVec<(&str, u32), FEW> = ArrayVec::new();
+    let mut names: ArrayVec<(&str, u32), FEW_FIELDS> = ArrayVec::new();
     'fields: for (position, field) in fields.iter().enumerate() {
         let name = field.name.as_ref()?.as_str();
         if is_among(names.as_slice(), name) {
@@ -131,7 +131,7 @@ pub(crate) fn keys_of(alloc: Global, fields: &[Field]) -> Result<Keys, AllocErro
 {
     match fields.len() {
         0 => Ok(Keys::Unnamed),
-        1..=FEW => match order_of_few(fields) {
+        1..=FEW_FIELDS => match order_of_few(fields) {
             Some(order) => keys_in(alloc, fields, order.as_slice()),
             None => Ok(Keys::Unnamed),
         },

@@ -11,7 +11,7 @@ use Rattle.decode_core.specs.Decoding.{HoldsOf, IsDone, IsGoing, IsOf, IsWaiting
 use Rattle.decode_core.specs.Decoding.{built_tree}
 use Rattle.outcome_core.specs.Decided.{Decided}
 use Rattle.outcome_core.specs.Machine.{remain, start}
-use Rattle.outcome_core.specs.Outcome.{Job, done, refused, more, too_long, IsOutcome}
+use Rattle.outcome_core.specs.Outcome.{Query, done, refused, more, too_long, IsOutcome}
 use Rattle.machine_core.specs.Reasons.{reason_of}
 use Rattle.machine_core.specs.Running.{Running, held_of, state_of}
 use Rattle.outcome_core.specs.Reported.{reported, reported_at, after}
@@ -28,11 +28,11 @@ use Rattle.outcome_core.proofs.Fed.{whole_reported}
 use Rattle.outcome_core.proofs.Kept.{take_split}
 
 -- the bytes that are offered within the limit
-abbrev pub offered : Job → ℕ → List ℕ → List ℕ
+abbrev pub offered : Query → ℕ → List ℕ → List ℕ
 offered j n piece = take (j.bytes - n) piece
 
--- a decoder that moved on still decodes a value of the job
-pub of_moved : (j : Job) (s last : Running) → IsOf j s → IsSame s last → IsOf j last
+-- a decoder that moved on still decodes a value of the query
+pub of_moved : (j : Query) (s last : Running) → IsOf j s → IsSame s last → IsOf j last
 of_moved j s last h k = record {
   types = k.types ∙ h.types;
   ty = k.ty ∙ h.ty;
@@ -41,7 +41,7 @@ of_moved j s last h k = record {
 }
 
 -- the bytes within the limit are those so far and then what is offered of the piece
-front_is : (j : Job) (b piece : List ℕ) (s : Running) (n : ℕ) → IsGoing j b s n →
+front_is : (j : Query) (b piece : List ℕ) (s : Running) (n : ℕ) → IsGoing j b s n →
     take j.bytes (b ++ piece) ≡ b ++ offered j n piece
 front_is j b piece s n g = take_split j.bytes b piece
     ∙ ap (λ (l : List ℕ). l ++ take (j.bytes - length b) piece)
@@ -49,7 +49,7 @@ front_is j b piece s n g = take_split j.bytes b piece
     ∙ ap (λ (k : ℕ). b ++ take (j.bytes - k) piece) (sym g.count)
 
 -- the own bytes of the nodes, after the turns
-moved_own : (j : Job) (b cut : List ℕ) (s last : Running) (n k : ℕ) → (g : IsGoing j b s n) →
+moved_own : (j : Query) (b cut : List ℕ) (s last : Running) (n k : ℕ) → (g : IsGoing j b s n) →
     (m : Moves s last (take k cut)) → b ++ cut ≡ (g.own ++ m.own) ++ (held_of last ++ drop k cut)
 moved_own j b cut s last n k g m =
     ap (λ (l : List ℕ). l ++ cut) g.is ∙ append_assoc g.own (held_of s) cut
@@ -61,7 +61,7 @@ moved_own j b cut s last n k g m =
     ∙ sym (append_assoc g.own m.own (held_of last ++ drop k cut))
 
 -- the bytes of a decoder's nodes and of its moves lead from the first state to the new one
-pub moved_led : (j : Job) (b : List ℕ) (s last : Running) (n : ℕ) (x : List ℕ) →
+pub moved_led : (j : Query) (b : List ℕ) (s last : Running) (n : ℕ) (x : List ℕ) →
     (g : IsGoing j b s n) → (m : Moves s last x) →
     TurnsLead j.registry (start j.depth j.ty) (state_of last.built) (g.own ++ m.own)
 moved_led j b s last n x g m =
@@ -72,7 +72,7 @@ moved_led j b s last n x g m =
     g.led one
 
 -- where the turns stopped in the input
-here : (j : Job) (b piece : List ℕ) (s last : Running) (n k : ℕ) → (g : IsGoing j b s n) →
+here : (j : Query) (b piece : List ℕ) (s last : Running) (n k : ℕ) → (g : IsGoing j b s n) →
     (m : Moves s last (take k (offered j n piece))) →
     Here j (b ++ piece) (state_of last.built) (held_of last ++ drop k (offered j n piece))
 here j b piece s last n k g m =
@@ -83,7 +83,7 @@ here j b piece s last n k g m =
     }
 
 -- how many bytes there are within the limit
-front_count : (j : Job) (b piece : List ℕ) (s : Running) (n : ℕ) → (g : IsGoing j b s n) →
+front_count : (j : Query) (b piece : List ℕ) (s : Running) (n : ℕ) → (g : IsGoing j b s n) →
     n + length (offered j n piece) ≡ length (take j.bytes (b ++ piece))
 front_count j b piece s n g =
     omega (
@@ -96,7 +96,7 @@ front_count j b piece s n g =
 -- ---- the value is whole
 
 -- turns on a piece that end with a whole value have it as the outcome of all bytes so far
-pub fed_done : (j : Job) (b piece : List ℕ) (s last : Running) (n k : ℕ) → (g : IsGoing j b s n) →
+pub fed_done : (j : Query) (b piece : List ℕ) (s last : Running) (n k : ℕ) → (g : IsGoing j b s n) →
     k ≤ length (offered j n piece) → Moves s last (take k (offered j n piece)) →
     EndsTurns last (drop k (offered j n piece)) stop.Finished → IsSound last →
     IsDone j (b ++ piece) last (n + k)
@@ -126,7 +126,7 @@ fed_done j b piece s last n k g le m st sound =
 -- ---- bytes are missing
 
 -- turns that lack bytes within the limit leave more wanted, and a begun tree held
-pub fed_more : (j : Job) (b piece : List ℕ) (s last : Running) (n k : ℕ) → (g : IsGoing j b s n) →
+pub fed_more : (j : Query) (b piece : List ℕ) (s last : Running) (n k : ℕ) → (g : IsGoing j b s n) →
     k ≤ length (offered j n piece) → Moves s last (take k (offered j n piece)) →
     EndsTurns last (drop k (offered j n piece)) stop.Wants → IsSound last → AreBytes piece →
     length piece ≤ j.bytes - n → IsGoing j (b ++ piece) last (n + k)
@@ -185,7 +185,7 @@ fed_more j b piece s last n k g le m st sound are short =
     )
 
 -- turns that lack bytes where the piece passes the limit make the input too long
-pub fed_long : (j : Job) (b piece : List ℕ) (s last : Running) (n k : ℕ) → (g : IsGoing j b s n) →
+pub fed_long : (j : Query) (b piece : List ℕ) (s last : Running) (n k : ℕ) → (g : IsGoing j b s n) →
     k ≤ length (offered j n piece) → Moves s last (take k (offered j n piece)) →
     EndsTurns last (drop k (offered j n piece)) stop.Wants → j.bytes - n < length piece →
     IsOutcome j (b ++ piece) too_long j.bytes
@@ -208,7 +208,7 @@ fed_long j b piece s last n k g le m st long =
 -- ---- the next node is refused
 
 -- turns that end with a refusal have it as the outcome of all bytes so far, at its place
-pub fed_refused : (j : Job) (b piece : List ℕ) (s last : Running) (n k held : ℕ)
+pub fed_refused : (j : Query) (b piece : List ℕ) (s last : Running) (n k held : ℕ)
     (reported_reason : DecodeReason) (at len : ℕ) → (g : IsGoing j b s n) →
     k ≤ length (offered j n piece) → Moves s last (take k (offered j n piece)) →
     EndsTurns last (drop k (offered j n piece)) (stop.Refused held reported_reason at len) →
@@ -258,7 +258,7 @@ fed_refused j b piece s last n k held reported_reason at len g le m st =
 -- ---- memory is wanted
 
 -- turns that end at an allocation failure report that it was wanted after all bytes taken
-pub fed_short : (j : Job) (b piece : List ℕ) (s last : Running) (n k : ℕ) → (g : IsGoing j b s n) →
+pub fed_short : (j : Query) (b piece : List ℕ) (s last : Running) (n k : ℕ) → (g : IsGoing j b s n) →
     k ≤ length (offered j n piece) → Moves s last (take k (offered j n piece)) →
     WantsMemory last (drop k (offered j n piece)) → IsSound last → RanOut j (b ++ piece) (n + k)
 unfolding here

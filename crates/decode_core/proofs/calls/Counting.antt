@@ -10,7 +10,7 @@ use Rattle.grammar_core.specs.Preorder.{Entry}
 use Rattle.outcome_core.specs.Bound.{node_bound}
 use Rattle.decode_core.specs.Decoding.{IsDone, RunLed}
 use Rattle.outcome_core.specs.Machine.{State, remain, start}
-use Rattle.outcome_core.specs.Outcome.{Job, done, IsOutcome}
+use Rattle.outcome_core.specs.Outcome.{Query, done, IsOutcome}
 use Rattle.machine_core.specs.Running.{Running, held_of, state_of}
 use Rattle.outcome_core.specs.Reported.{Reported, reported, added, after, reported_at}
 use Rattle.machine_core.specs.Turned.{FeedReports, FewTurns, IsSound, Moves, StopCounts}
@@ -48,7 +48,7 @@ added_few r depth t own (reported xs (Ok rest)) is =
     let v = value_of (value_at r (suc depth) t own) (reported_at r (suc depth) t own) xs rest
     (reported_agrees r (suc depth) t own) is in
     let st = read_is_value r (suc depth) t own v.0 rest v.1 in
-    let j : Job = record { registry = r; ty = t; depth = depth; bytes = length own } in
+    let j : Query = record { registry = r; ty = t; depth = depth; bytes = length own } in
     let out : IsOutcome j own (done v.0) (length st.0) =
     (st.0, rest, take_all (length own) own (omega arith) ∙ st.1, st.2, st.3, refl) in
     let few = ((held_is_bounded j own (length st.0)).0 v.0 out).0 in
@@ -76,7 +76,7 @@ state_few r depth t s own h =
     )
 
 -- a whole value gets no more nodes
-done_few : (j : Job) (b : List ℕ) (s last : Running) (n : ℕ) (x : List ℕ) → IsDone j b s n →
+done_few : (j : Query) (b : List ℕ) (s last : Running) (n : ℕ) (x : List ℕ) → IsDone j b s n →
     Moves s last x → length last.built.entries ≤ length s.built.entries
 done_few j b s last n x g m =
     let same = ap (λ (y : Reported). length (added y)) (done_reported j b s last n x g m []) in
@@ -88,7 +88,7 @@ done_few j b s last n x g m =
     )
 
 -- a decoder that a piece led to has no more nodes than the bound for all bytes taken
-reached_few : (j : Job) (b : List ℕ) (s last : Running) (n : ℕ) (x : List ℕ) → RunLed j b n (Ok s) →
+reached_few : (j : Query) (b : List ℕ) (s last : Running) (n : ℕ) (x : List ℕ) → RunLed j b n (Ok s) →
     Moves s last x → length last.built.entries ≤ node_bound (n + length x)
     j.depth (widest j.registry)
 reached_few j b s last n x (inl g) m =
@@ -123,7 +123,7 @@ reached_few j b s last n x (inr h) m =
 -- ---- the turns on a piece
 
 -- with n bytes taken in all, which are no fewer than those that the turns took
-counts_end : (j : Job) (b slice : List ℕ) (s last : Running) (taken k n from to calls closed : ℕ) →
+counts_end : (j : Query) (b slice : List ℕ) (s last : Running) (taken k n from to calls closed : ℕ) →
     RunLed j b taken (Ok s) → Moves s last (take k slice) → FewTurns s last k from to →
     IsSound last → closed ≡ last.built.turns →
     from ≤ taken + length s.built.entries + calls → taken + k ≤ n →
@@ -142,7 +142,7 @@ counts_end j b slice s last taken k n from to calls closed led moves few sound i
     )
 
 -- where turns end at an allocation failure, all turns of both loops stay within the bound
-pub counts_short : (j : Job) (b slice : List ℕ) (s new : Running) (taken k from to calls : ℕ) →
+pub counts_short : (j : Query) (b slice : List ℕ) (s new : Running) (taken k from to calls : ℕ) →
     RunLed j b taken (Ok s) → StopsShort s new slice k from to →
     from ≤ taken + length s.built.entries + calls →
     to + new.built.turns ≤ taken + k + 2 * node_bound (taken + k) j.depth (widest j.registry) + suc
@@ -152,7 +152,7 @@ counts_short j b slice s new taken k from to calls led short before =
     short.moves short.few short.sound short.closed before (omega arith)
 
 -- where a node is refused, all turns of both loops stay within the bound for what is taken
-pub counts_refused : (j : Job) (b slice : List ℕ) (s new : Running) (taken k held : ℕ)
+pub counts_refused : (j : Query) (b slice : List ℕ) (s new : Running) (taken k held : ℕ)
     (reported_reason : DecodeReason) (at len from to calls : ℕ) (why : Stopped) →
     RunLed j b taken (Ok s) → FeedReports s new slice k why →
     why ≡ stop.Refused held reported_reason at len → held ≤ taken + k →
@@ -168,7 +168,7 @@ counts_refused j b slice s new taken k held reported_reason at len from to calls
     led short.moves short.few short.sound short.closed before (omega (arith, within, g.1.2.8))
 
 -- where the byte limit is reached, all turns of both loops stay within the bound for the limit
-pub counts_long : (j : Job) (b piece slice : List ℕ) (s new : Running)
+pub counts_long : (j : Query) (b piece slice : List ℕ) (s new : Running)
     (limit taken k from to calls : ℕ) (why : Stopped) → j.bytes ≡ limit →
     slice ≡ take (limit - taken) piece → RunLed j b taken (Ok s) → FeedReports s new slice k why →
     why ≡ stop.Wants → StopCounts s new slice from to k why →

@@ -8,7 +8,7 @@ use Rattle.scale_core.specs.declared.fault.Reason.TheVariants as scale
 use Rattle.grammar_core.specs.Reading.{Refusal, basic}
 use Rattle.decode_core.specs.Decoding.{HoldsOf, IsDone, IsEnded, IsGoing, RunLed}
 use Rattle.machine_core.specs.Reasons.{reason_of}
-use Rattle.outcome_core.specs.Outcome.{Job, more, IsOutcome}
+use Rattle.outcome_core.specs.Outcome.{Query, more, IsOutcome}
 use Rattle.value_core.specs.Refusals.{is_complete}
 use Rattle.machine_core.specs.Running.{Running, held_of}
 use Rattle.machine_core.specs.Turned.{FeedReports, RunsOut, EndsTurns}
@@ -20,7 +20,7 @@ use Rattle.decode_core.proofs.calls.Bridge.{fed_short, offered}
 use Rattle.decode_core.proofs.calls.Feeding.{led_done, led_more, led_long, led_refused}
 
 -- what was offered is the part within the limit
-reports_offered : (j : Job) (piece slice : List ℕ) (s new : Running) (limit taken k : ℕ)
+reports_offered : (j : Query) (piece slice : List ℕ) (s new : Running) (limit taken k : ℕ)
     (why : Stopped) → j.bytes ≡ limit → slice ≡ take (limit - taken) piece →
     FeedReports s new slice k why → FeedReports s new (offered j taken piece) k why
 reports_offered j piece slice s new limit taken k why e is f =
@@ -29,7 +29,7 @@ reports_offered j piece slice s new limit taken k why e is f =
     subst (λ (l : List ℕ). FeedReports s new l k why) same f
 
 -- turns that end with a whole value make the decoder done, by all bytes so far
-pub run_done : (j : Job) (b piece slice : List ℕ) (s new : Running) (limit taken k : ℕ)
+pub run_done : (j : Query) (b piece slice : List ℕ) (s new : Running) (limit taken k : ℕ)
     (why : Stopped) → j.bytes ≡ limit → slice ≡ take (limit - taken) piece →
     RunLed j b taken (Ok s) → FeedReports s new slice k why → why ≡ stop.Finished →
     IsDone j (b ++ piece) new (taken + k)
@@ -39,7 +39,7 @@ run_done j b piece slice s new limit taken k why e is led f w =
     (reports_offered j piece slice s new limit taken k why e is f))
 
 -- turns that lack bytes at the limit, where the piece has more, end the decoder as too long
-pub run_long : (j : Job) (b piece slice : List ℕ) (s new : Running) (limit taken k : ℕ)
+pub run_long : (j : Query) (b piece slice : List ℕ) (s new : Running) (limit taken k : ℕ)
     (why : Stopped) → j.bytes ≡ limit → slice ≡ take (limit - taken) piece →
     RunLed j b taken (Ok s) → FeedReports s new slice k why → why ≡ stop.Wants →
     length slice < length piece →
@@ -54,7 +54,7 @@ run_long j b piece slice s new limit taken k why e is led f w cut =
     (inr (inl (refl, out)))
 
 -- turns that lack bytes within the limit leave the decoder going, and a begun tree held
-pub run_more : (j : Job) (b piece slice : List ℕ) (s new : Running) (limit taken k : ℕ)
+pub run_more : (j : Query) (b piece slice : List ℕ) (s new : Running) (limit taken k : ℕ)
     (why : Stopped) → j.bytes ≡ limit → slice ≡ take (limit - taken) piece →
     RunLed j b taken (Ok s) → FeedReports s new slice k why → why ≡ stop.Wants → AreBytes piece →
     length piece ≤ length slice → IsGoing j (b ++ piece) new (taken + k)
@@ -67,7 +67,7 @@ run_more j b piece slice s new limit taken k why e is led f w are all =
     (reports_offered j piece slice s new limit taken k why e is f)) are short
 
 -- what was held of a refused node is no more than the bytes taken
-pub run_held : (j : Job) (b piece slice : List ℕ) (s new : Running) (limit taken k held : ℕ)
+pub run_held : (j : Query) (b piece slice : List ℕ) (s new : Running) (limit taken k held : ℕ)
     (reported_reason : DecodeReason) (at len : ℕ) (why : Stopped) → j.bytes ≡ limit →
     slice ≡ take (limit - taken) piece → RunLed j b taken (Ok s) → FeedReports s new slice k why →
     why ≡ stop.Refused held reported_reason at len → held ≤ taken + k
@@ -77,7 +77,7 @@ run_held j b piece slice s new limit taken k held reported_reason at len why e i
     (reports_offered j piece slice s new limit taken k why e is f))).0
 
 -- turns that end with a refusal end the decoder with its reason, place and bytes taken
-pub run_refused : (j : Job) (b piece slice : List ℕ) (s new : Running) (limit taken k held : ℕ)
+pub run_refused : (j : Query) (b piece slice : List ℕ) (s new : Running) (limit taken k held : ℕ)
     (reported_reason : DecodeReason) (at len : ℕ) (why : Stopped) → j.bytes ≡ limit →
     slice ≡ take (limit - taken) piece → RunLed j b taken (Ok s) → FeedReports s new slice k why →
     why ≡ stop.Refused held reported_reason at len →
@@ -109,7 +109,7 @@ stops_otherwise r whole is =
     sym is ∙ ap (λ (x : ℕ × Stopped). x.1) whole in absurd cc
 
 -- turns that end at an allocation failure end the decoder so, if its value was not whole
-pub run_short : (j : Job) (b piece slice : List ℕ) (s : Running) (limit taken k : ℕ) →
+pub run_short : (j : Query) (b piece slice : List ℕ) (s : Running) (limit taken k : ℕ) →
     j.bytes ≡ limit → slice ≡ take (limit - taken) piece → RunLed j b taken (Ok s) →
     (is_complete s.built ≡ true → ⊥) → RunsOut s slice k →
     IsEnded j (b ++ piece) (record { reason = reason.OutOfMemory; at = 0 }) (taken + k)

@@ -10,7 +10,7 @@ use Rattle.scale_core.specs.Number.{AreBytes}
 use Rattle.decode_core.specs.Decoding.{HoldsOf, IsDone, IsEnded, IsGoing, RanOut, RunLed}
 use Rattle.decode_core.specs.Decoding.{built_tree}
 use Rattle.outcome_core.specs.Machine.{remain}
-use Rattle.outcome_core.specs.Outcome.{Job, done, refused, more, too_long, IsOutcome}
+use Rattle.outcome_core.specs.Outcome.{Query, done, refused, more, too_long, IsOutcome}
 use Rattle.machine_core.specs.Reasons.{reason_of}
 use Rattle.machine_core.specs.Running.{Running, held_of, state_of}
 use Rattle.outcome_core.specs.Reported.{reported, added, after, Ending, ending}
@@ -26,7 +26,7 @@ use Rattle.machine_core.proofs.steps.Refusing.{waits_reported}
 -- ---- a value that is whole takes no more
 
 -- what a whole value reports after any move
-pub done_reported : (j : Job) (b : List ℕ) (s last : Running) (n : ℕ) (x : List ℕ) →
+pub done_reported : (j : Query) (b : List ℕ) (s last : Running) (n : ℕ) (x : List ℕ) →
     (g : IsDone j b s n) → (m : Moves s last x) → (later : List ℕ) →
     reported s.built.entries (Ok (m.own ++ later))
     ≡ after last.built.entries (remain (types_in s) (state_of last.built) later)
@@ -44,7 +44,7 @@ no_fault xs ys rest x left e h = let both : ◌≡◌ {A = Ending} (Ok rest) (Er
     ap ending h in absurd cc
 
 -- a value that was whole cannot fail after it moved on, so anything follows
-done_cannot_fail : {X : Type 0} (j : Job) (b : List ℕ) (s last : Running) (n : ℕ)
+done_cannot_fail : {X : Type 0} (j : Query) (b : List ℕ) (s last : Running) (n : ℕ)
     (x y left : List ℕ) (e : Refusal) → IsDone j b s n → Moves s last x →
     remain (types_in last) (state_of last.built) y ≡ reported [] (Err ((e, left), y)) → X
 done_cannot_fail j b s last n x y left e g m h =
@@ -58,7 +58,7 @@ ok_is : (x y : List ℕ) → ◌≡◌ {A = Ending} (Ok x) (Ok y) → x ≡ y
 ok_is x y h = cc
 
 -- it stands as it is
-pub done_again : (j : Job) (b piece : List ℕ) (s last : Running) (n k : ℕ) → IsDone j b s n →
+pub done_again : (j : Query) (b piece : List ℕ) (s last : Running) (n k : ℕ) → IsDone j b s n →
     k ≤ length (offered j n piece) → Moves s last (take k (offered j n piece)) →
     EndsTurns last (drop k (offered j n piece)) stop.Finished → IsSound last →
     IsDone j (b ++ piece) last (n + k)
@@ -105,7 +105,7 @@ done_again j b piece s last n k g le m st sound =
 -- ---- be it whole or not
 
 -- turns that end with a whole value make the decoder done, be it in progress or whole before
-pub led_done : (j : Job) (b piece : List ℕ) (s new : Running) (n k : ℕ) → RunLed j b n (Ok s) →
+pub led_done : (j : Query) (b piece : List ℕ) (s new : Running) (n k : ℕ) → RunLed j b n (Ok s) →
     FeedReports s new (offered j n piece) k stop.Finished → IsDone j (b ++ piece) new (n + k)
 led_done j b piece s new n k (inl g) f =
     subst (λ (r : Running). IsDone j (b ++ piece) r (n + k)) (sym f.1.3)
@@ -115,7 +115,7 @@ led_done j b piece s new n k (inr g) f =
     (done_again j b piece s f.1.0 n k g f.0 f.1.1 f.1.2 f.1.4)
 
 -- the same where they lack bytes within the limit: more is wanted, and a begun tree held
-pub led_more : (j : Job) (b piece : List ℕ) (s new : Running) (n k : ℕ) → RunLed j b n (Ok s) →
+pub led_more : (j : Query) (b piece : List ℕ) (s new : Running) (n k : ℕ) → RunLed j b n (Ok s) →
     FeedReports s new (offered j n piece) k stop.Wants → AreBytes piece →
     length piece ≤ j.bytes - n →
     IsGoing j (b ++ piece) new (n + k) × IsOutcome j (b ++ piece) more (n + k)
@@ -129,7 +129,7 @@ led_more j b piece s new n k (inr g) f are short =
     truncated g f.1.1 (waits_reported f.1.0 f.1.2.1)
 
 -- the same where they lack bytes and the piece passes the limit: the input is too long
-pub led_long : (j : Job) (b piece : List ℕ) (s new : Running) (n k : ℕ) → RunLed j b n (Ok s) →
+pub led_long : (j : Query) (b piece : List ℕ) (s new : Running) (n k : ℕ) → RunLed j b n (Ok s) →
     FeedReports s new (offered j n piece) k stop.Wants → j.bytes - n < length piece →
     IsOutcome j (b ++ piece) too_long j.bytes
 led_long j b piece s new n k (inl g) f long = fed_long j b piece s f.1.0 n k g f.0 f.1.1 f.1.2 long
@@ -138,7 +138,7 @@ led_long j b piece s new n k (inr g) f long =
     truncated g f.1.1 (waits_reported f.1.0 f.1.2.1)
 
 -- the same where they end with a refusal: it is the outcome of all bytes so far, at its place
-pub led_refused : (j : Job) (b piece : List ℕ) (s new : Running) (n k held : ℕ)
+pub led_refused : (j : Query) (b piece : List ℕ) (s new : Running) (n k held : ℕ)
     (reported_reason : DecodeReason) (at len : ℕ) → RunLed j b n (Ok s) →
     FeedReports s new (offered j n piece) k (stop.Refused held reported_reason at len) →
     (held ≤ n + k) × ((e : Refusal) × (reported_reason ≡ reason_of e)
@@ -150,7 +150,7 @@ led_refused j b piece s new n k held reported_reason at len (inr g) f =
     (held_of f.1.0 ++ drop k (offered j n piece)) f.1.2.1 f.1.2.0 g f.1.1 f.1.2.6
 
 -- the bytes that led to a decoder are within its limit
-pub led_fits : (j : Job) (b : List ℕ) (s : Running) (n : ℕ) → RunLed j b n (Ok s) → n ≤ j.bytes
+pub led_fits : (j : Query) (b : List ℕ) (s : Running) (n : ℕ) → RunLed j b n (Ok s) → n ≤ j.bytes
 led_fits j b s n (inl g) = g.fits
 led_fits j b s n (inr g) = g.fits
 
@@ -168,7 +168,7 @@ wants_on s rest back h =
     }
 
 -- memory that was wanted was so, whatever bytes follow
-ran_out_stays : (j : Job) (b piece : List ℕ) (n : ℕ) → RanOut j b n → RanOut j (b ++ piece) n
+ran_out_stays : (j : Query) (b piece : List ℕ) (n : ℕ) → RanOut j b n → RanOut j (b ++ piece) n
 ran_out_stays j b piece n h =
     let back = take (j.bytes - length b) piece in
     let held = held_of h.s in
@@ -187,7 +187,7 @@ ran_out_stays j b piece n h =
     }
 
 -- what ended stays so
-pub ended_stays : (j : Job) (b piece : List ℕ) (f : DecodeFault) (n : ℕ) → IsEnded j b f n →
+pub ended_stays : (j : Query) (b piece : List ℕ) (f : DecodeFault) (n : ℕ) → IsEnded j b f n →
     IsEnded j (b ++ piece) f n
 ended_stays j b piece f n (inl h) = inl (h.0, ran_out_stays j b piece n h.1)
 ended_stays j b piece f n (inr (inl h)) =

@@ -25,7 +25,7 @@ use Rattle.decode_core.specs.Decoding.{HoldsOf, IsOf, IsWaiting}
 use Rattle.outcome_core.specs.HeldLaws.{open_run, past_length}
 use Rattle.outcome_core.specs.HeldTree.{IsShort}
 use Rattle.form_core.specs.Needs.{HasBytes, kind_need, need}
-use Rattle.outcome_core.specs.Outcome.{Job}
+use Rattle.outcome_core.specs.Outcome.{Query}
 use Rattle.machine_core.specs.Running.{Running, IsCarry, IsRunNext, held_of, run_held}
 use Rattle.outcome_core.specs.Reported.{own_at}
 use Rattle.machine_core.proofs.steps.NodeAdding.{next_has, next_run}
@@ -36,7 +36,7 @@ use Rattle.outcome_core.proofs.ReportedSpells.{HoldsBytes, entry_bytes, reported
 -- ---- the tree and its bytes
 
 -- the nodes' bytes stand before those that are held
-own_is : (j : Job) (b : List ℕ) (s : Running) → IsOf j s → AreBytes b → IsWaiting j b s →
+own_is : (j : Query) (b : List ℕ) (s : Running) → IsOf j s → AreBytes b → IsWaiting j b s →
     b ≡ built_bytes s.built ++ held_of s
 own_is j b s of are w =
     let read = subst (HoldsBytes j.registry b) w.reads
@@ -44,7 +44,7 @@ own_is j b s of are w =
     read ∙ ap (λ (r : List TypeInfo). entry_bytes r s.built.entries ++ held_of s) (sym of.types)
 
 -- the tree grows up to the walk's next type
-grows_to : (j : Job) (s : Running) (u : ℕ) (g : Begun) → IsOf j s →
+grows_to : (j : Query) (s : Running) (u : ℕ) (g : Begun) → IsOf j s →
     next_type s.built.walk ≡ Some u →
     Grows s.built.walk.types (s.built.walk.limit + 1) s.built.ty g (built_bytes s.built)
     (next_with_room s.built.walk) →
@@ -63,14 +63,14 @@ grows_to j s u g of is h =
     (subst (λ (o : Option (ℕ × ℕ)). Grows s.built.walk.types (s.built.walk.limit + 1) s.built.ty g
     own o) next h)))
 
--- the next layout of a decoder is that of its next type in the job's registry
-layout_is : (j : Job) (s : Running) (u : ℕ) → IsOf j s → next_type s.built.walk ≡ Some u →
+-- the next layout of a decoder is that of its next type in the query's registry
+layout_is : (j : Query) (s : Running) (u : ℕ) → IsOf j s → next_type s.built.walk ≡ Some u →
     next_layout s.built ≡ layout j.registry u
 layout_is j s u of is = ap (λ (o : Option ℕ). layout s.built.walk.types (type_or_0 o)) is
     ∙ ap (λ (r : List TypeInfo). layout r u) of.types
 
 -- where bytes are missing, what is held is short for the type that is next, with its room
-short_to : (j : Job) (b : List ℕ) (s : Running) → IsOf j s → (w : IsWaiting j b s) →
+short_to : (j : Query) (b : List ℕ) (s : Running) → IsOf j s → (w : IsWaiting j b s) →
     (n : Wanted s.built.walk w.wants.form) →
     IsShort j.registry (s.built.walk.limit + 2 - length s.built.walk.frames) n.ty (held_of s)
 short_to j b s of w n =
@@ -140,7 +140,7 @@ open_is b c (Some t) carried h =
     ∙ ap past_length (length_again t.kind t.len t.bytes h.2))
 
 -- a decoder that waits for bytes holds the begun tree of all bytes so far, and no other node
-pub holds_of : (j : Job) (b : List ℕ) (s : Running) → IsOf j s → AreBytes b → IsWaiting j b s →
+pub holds_of : (j : Query) (b : List ℕ) (s : Running) → IsOf j s → AreBytes b → IsWaiting j b s →
     HoldsOf j b s
 holds_of j b s of are w =
     let n = wanted s.built.walk w.wants.form w.wants.next in

@@ -4,7 +4,7 @@ use Rattle.decode_core.specs.declared.decoder.Decoder.TheInside.{Inside}
 use Rattle.decode_core.specs.declared.fault.DecodeFault.{DecodeFault}
 use Rattle.decode_core.specs.Decoding.{Decoding, IsDecoding, IsSmall, Led, LoopCounted, RunCounted}
 use Rattle.decode_core.specs.Decoding.{RunLed, closing_turns}
-use Rattle.outcome_core.specs.Outcome.{Job}
+use Rattle.outcome_core.specs.Outcome.{Query}
 use Rattle.machine_core.specs.Running.{Running}
 use Rattle.decode_core.specs.Viewed.{decoding_of, job_within}
 use Rattle.decode_core.proofs.calls.Small.{led_small}
@@ -21,7 +21,7 @@ led_to_run d seen s b is run led =
     subst (RunLed (job_within d) b d.taken) run (led_inside d seen b is led)
 
 -- which bytes led to the value that is there, and the turns of the decoder's own loop
-pub record HasRun (j : Job) (b : List ℕ) (n : ℕ) (s : Running) (turns calls : ℕ) : Type 0 where
+pub record HasRun (j : Query) (b : List ℕ) (n : ℕ) (s : Running) (turns calls : ℕ) : Type 0 where
   pub led : RunLed j b n (Ok s)
   pub counted : LoopCounted n s turns calls
 
@@ -41,7 +41,7 @@ has_run d s i run =
 pub small_inside : {A : Type 0} (d : Inside A) (s : Running) → IsDecoding (decoding_of d) →
     d.run ≡ Ok s →
     IsSmall (record {
-      job = job_within d;
+      query = job_within d;
       taken = d.taken;
       run = Ok s;
       turns = d.turns.so_far + s.built.turns;
@@ -50,7 +50,7 @@ pub small_inside : {A : Type 0} (d : Inside A) (s : Running) → IsDecoding (dec
 small_inside d s i run =
     subst (λ (r : Result Running DecodeFault). IsSmall
     (record {
-      job = job_within d;
+      query = job_within d;
       taken = d.taken;
       run = r;
       turns = d.turns.so_far + closing_turns r d.closings.so_far;

@@ -19,7 +19,7 @@ use Rattle.outcome_core.specs.Bound.{node_bound, value_bound}
 use Rattle.node_core.specs.Shown.{Seen}
 use Rattle.decode_core.specs.Decoding.{FinishesDecoder, IsSmallValue, IsDone, IsSmall, IsWaiting}
 use Rattle.decode_core.specs.Decoding.{RunCounted, RunLed, built_tree, first_running}
-use Rattle.outcome_core.specs.Outcome.{Job}
+use Rattle.outcome_core.specs.Outcome.{Query}
 use Rattle.machine_core.specs.Running.{Running, held_of, run_held}
 use Rattle.outcome_core.specs.Reported.{Fault, shown}
 use Rattle.machine_core.specs.Turned.{IsSound}
@@ -44,7 +44,7 @@ pieces_held s = by s.built.run where
   by (Some t) = omega (arith, length-append (run_front t.kind t.len) t.bytes)
 
 -- a decoder that waits for bytes has few nodes and bytes of texts for those taken
-waiting_small : (j : Job) (b : List ℕ) (n : ℕ) (s : Running) → n ≡ length b → IsWaiting j b s →
+waiting_small : (j : Query) (b : List ℕ) (n : ℕ) (s : Running) → n ≡ length b → IsWaiting j b s →
     (length s.built.entries ≤ node_bound n j.depth (widest j.registry))
     × (built_text_bytes s.built ≤ n)
 waiting_small j b n s count h =
@@ -77,7 +77,7 @@ whole_counts nothing hs e h = absurd cc
 whole_counts (open_branch k n vs g) hs e h = absurd cc
 
 -- a whole value has few nodes and bytes of texts for the bytes taken
-pub done_small : (j : Job) (b : List ℕ) (n : ℕ) (s : Running) → IsDone j b s n →
+pub done_small : (j : Query) (b : List ℕ) (n : ℕ) (s : Running) → IsDone j b s n →
     (length s.built.entries ≤ value_bound n j.depth (widest j.registry))
     × (built_text_bytes s.built ≤ n)
 done_small j b n s h =
@@ -90,7 +90,7 @@ done_small j b n s h =
     )
 
 -- a whole value has just its own nodes and bytes of runs
-pub done_counts : (j : Job) (b : List ℕ) (n : ℕ) (s : Running) → IsDone j b s n →
+pub done_counts : (j : Query) (b : List ℕ) (n : ℕ) (s : Running) → IsDone j b s n →
     (length s.built.entries ≡ nodes (built_tree s.built))
     × (built_text_bytes s.built ≡ text_bytes (built_tree s.built))
 done_counts j b n s h =
@@ -109,11 +109,11 @@ value_le_nodes n depth width =
     omega (arith, spread)
 
 -- as much as is held of a value with these nodes, bytes of runs and open parts
-running_small : (j : Job) (n : ℕ) (s : Running) (turns calls : ℕ) →
+running_small : (j : Query) (n : ℕ) (s : Running) (turns calls : ℕ) →
     length s.built.entries ≤ node_bound n j.depth (widest j.registry) →
     built_text_bytes s.built ≤ n → s.built.walk.limit ≡ j.depth → IsSound s →
     RunCounted j n (Ok s) turns calls →
-    IsSmall (record { job = j; taken = n; run = Ok s; turns = turns; calls = calls })
+    IsSmall (record { query = j; taken = n; run = Ok s; turns = turns; calls = calls })
 running_small j n s turns calls few texts limit sound counted =
     record {
       nodes = few;
@@ -126,9 +126,9 @@ running_small j n s turns calls few texts limit sound counted =
     }
 
 -- a decoder that has taken nothing, with its turns counted, is small
-first_small : (j : Job) (n : ℕ) (s : Running) (turns calls : ℕ) →
+first_small : (j : Query) (n : ℕ) (s : Running) (turns calls : ℕ) →
     s ≡ first_running j.registry j.ty j.depth → RunCounted j n (Ok s) turns calls →
-    IsSmall (record { job = j; taken = n; run = Ok s; turns = turns; calls = calls })
+    IsSmall (record { query = j; taken = n; run = Ok s; turns = turns; calls = calls })
 first_small j n s turns calls is counted =
     let none : length s.built.entries ≡ 0 = ap (λ (x : Running). length x.built.entries) is in
     let no_text : built_text_bytes s.built ≡ 0 =
@@ -148,9 +148,9 @@ first_small j n s turns calls is counted =
     }
 
 -- a decoder that bytes led to, with its turns counted, is small for them
-pub led_small : (j : Job) (b : List ℕ) (n : ℕ) (run : Result Running DecodeFault)
+pub led_small : (j : Query) (b : List ℕ) (n : ℕ) (run : Result Running DecodeFault)
     (turns calls : ℕ) → RunLed j b n run → RunCounted j n run turns calls →
-    IsSmall (record { job = j; taken = n; run = run; turns = turns; calls = calls })
+    IsSmall (record { query = j; taken = n; run = run; turns = turns; calls = calls })
 led_small j b n (Err f) turns calls h counted =
     record {
       nodes = omega arith;
@@ -165,12 +165,12 @@ led_small j b n (Ok s) turns calls (inr h) counted = let few = done_small j b n 
     counted
 led_small j b n (Ok s) turns calls (inl h) counted = by h.stands where
   by : (s ≡ first_running j.registry j.ty j.depth) ⊎ IsWaiting j b s →
-      IsSmall (record { job = j; taken = n; run = Ok s; turns = turns; calls = calls })
+      IsSmall (record { query = j; taken = n; run = Ok s; turns = turns; calls = calls })
   by (inl is) = first_small j n s turns calls is counted
   by (inr w) = let few = waiting_small j b n s h.count w in
       running_small j n s turns calls few.0 few.1 h.same.limit w.sound counted
 
 -- a value that is handed out is small for its bytes
-pub value_small : (j : Job) (b : List ℕ) (v : Seen) → FinishesDecoder j b (Ok v) →
+pub value_small : (j : Query) (b : List ℕ) (v : Seen) → FinishesDecoder j b (Ok v) →
     IsSmallValue j b (Ok v)
 value_small j b v h = let few = (held_is_bounded j b h.0).0 v.tree h.3 in (h.0, h.3, few.0, few.1)

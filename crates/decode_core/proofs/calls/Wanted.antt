@@ -23,7 +23,7 @@ use Rattle.grammar_core.specs.Preorder.{Entry}
 use Rattle.decode_core.specs.Decoding.{RanOut}
 use Rattle.outcome_core.specs.Machine.{remain}
 use Rattle.machine_core.specs.NodeAdds.{with_own}
-use Rattle.outcome_core.specs.Outcome.{Job, more, IsOutcome}
+use Rattle.outcome_core.specs.Outcome.{Query, more, IsOutcome}
 use Rattle.machine_core.specs.Running.{held_of, state_of}
 use Rattle.grammar_core.specs.Reading.{Own}
 use Rattle.outcome_core.specs.Reported.{Reported, reported, after, own_at, reported_at}
@@ -80,7 +80,7 @@ run_begun k held bytes came n (Err e) read' at h is some few = elim (reason_repo
 -- ---- what the bytes taken say
 
 -- the bytes taken, and those after them
-front_is : (j : Job) (b : List ℕ) (n : ℕ) (h : RanOut j b n) →
+front_is : (j : Query) (b : List ℕ) (n : ℕ) (h : RanOut j b n) →
     (take j.bytes b ≡ (h.own ++ held_of h.s) ++ h.rest) × (length (h.own ++ held_of h.s) ≡ n)
 front_is j b n h = (
   h.is ∙ sym (append_assoc h.own (held_of h.s) h.rest),
@@ -88,7 +88,7 @@ front_is j b n h = (
 )
 
 -- more are wanted where they are too few for the next node
-cut_goes_on : (j : Job) (b left : List ℕ) (n : ℕ) (h : RanOut j b n) →
+cut_goes_on : (j : Query) (b left : List ℕ) (n : ℕ) (h : RanOut j b n) →
     own_at (next_layout h.s.built) (held_of h.s) ≡ Err (truncated, left) →
     IsOutcome j (h.own ++ held_of h.s) more (length (h.own ++ held_of h.s))
 cut_goes_on j b left n h short =
@@ -126,7 +126,7 @@ entries_with b (h, None) = refl
 entries_with b (h, Some p) = refl
 
 -- the node is read where they spell it
-node_goes_on : (j : Job) (b : List ℕ) (n : ℕ) (h : RanOut j b n) (x : Head × Option Part) →
+node_goes_on : (j : Query) (b : List ℕ) (n : ℕ) (h : RanOut j b n) (x : Head × Option Part) →
     own_at (next_layout h.s.built) (held_of h.s) ≡ Ok (x, []) → (later : List ℕ) →
     (rest : Reported) × (reported_at j.registry (suc j.depth) j.ty ((h.own ++ held_of h.s) ++ later)
     ≡ after (h.s.built.entries ++ next_entry h.s.built x.0 ∷ []) rest)
@@ -151,7 +151,7 @@ some_left : (rest bytes later : List ℕ) → rest ≡ bytes ++ later → 1 ≤ 
 some_left rest bytes later is some = omega (arith, ap length is, length-append bytes later, some)
 
 -- by the bytes of the rest that are wanted for the node
-node_by : (j : Job) (b : List ℕ) (n : ℕ) (h : RanOut j b n) (bytes : List ℕ) →
+node_by : (j : Query) (b : List ℕ) (n : ℕ) (h : RanOut j b n) (bytes : List ℕ) →
     bytes ≡ h.wants.bytes → KeepsNode h.s bytes → GoesOn j (h.own ++ held_of h.s) h.rest
 node_by j b n h [] none keeps =
     inr (
@@ -171,7 +171,7 @@ node_by j b n h (y ∷ bytes) same keeps =
     )
 
 -- where memory was wanted, more bytes were too and one is there, or a further node is read
-goes_by : (j : Job) (b : List ℕ) (n : ℕ) (h : RanOut j b n) → KeepsNode h.s h.wants.bytes
+goes_by : (j : Query) (b : List ℕ) (n : ℕ) (h : RanOut j b n) → KeepsNode h.s h.wants.bytes
     ⊎ KeepsRun h.s h.wants.bytes → GoesOn j (h.own ++ held_of h.s) h.rest
 goes_by j b n h (inl keeps) = node_by j b n h h.wants.bytes refl keeps
 goes_by j b n h (inr keeps) =

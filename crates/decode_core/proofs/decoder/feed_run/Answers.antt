@@ -16,7 +16,7 @@ returns-in-Wants-clause-answers g c =
     c.feed-count.ensures.reports c.in-Wants.is c.if-offered-piece.true
 
 pub overflow_sub-node : goal.overflow_sub-node
-overflow_sub-node g c = run_held c.requires.led.job c.requires.led.bytes c.args.piece.now
+overflow_sub-node g c = run_held c.requires.led.query c.requires.led.bytes c.args.piece.now
     c.within-offered.result.now c.args.run.now c.feed-count.new.self c.args.limit c.args.taken
     c.feed-count.result.0 c.in-Refused.held c.in-Refused.reason
     c.in-Refused.at c.in-Refused.len c.feed-count.result.1
@@ -77,7 +77,7 @@ returns-in-OutOfMemory-clause-counts g c = λ j b calls e led before.
 pub returns-in-Refused-clause-takes : goal.returns-in-Refused-clause-takes
 returns-in-Refused-clause-takes g c =
     let r = c.in-Refused in
-    let within = run_held c.requires.led.job c.requires.led.bytes c.args.piece.now
+    let within = run_held c.requires.led.query c.requires.led.bytes c.args.piece.now
     c.within-offered.result.now c.args.run.now c.feed-count.new.self c.args.limit c.args.taken
     c.feed-count.result.0 r.held r.reason r.at r.len c.feed-count.result.1 c.requires.led.is_limit
     c.within-offered.ensures c.requires.led.led c.feed-count.ensures.reports r.is in

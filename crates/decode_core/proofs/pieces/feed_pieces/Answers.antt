@@ -14,7 +14,7 @@ returns-in_err-feed-clause-refused g c =
     c.pieces-test.true in
     let answers = c.in_err-feed.ensures.answers _ c.pieces.invariant.so_far.led in
     let p = err_from_is_err_and c.from_residual.result c.from_residual.ensures.1 in
-    rw (p.1, p.2) (refused_within c.feed.new.self.job _ _ _ c.in_err-feed.field-0.0
+    rw (p.1, p.2) (refused_within c.feed.new.self.query _ _ _ c.in_err-feed.field-0.0
     c.feed.new.self.taken split answers.0.1)
 
 pub returns-in-Done-clause-fed : goal.returns-in-Done-clause-fed
@@ -40,7 +40,7 @@ pieces-preserved g c =
       so_far = subst (IsUnderWay c.feed.new.self) (sym next)
           (under_way_by c.pieces.decoder c.feed.new.self before piece c.in_ok-feed.field-0
           (more_by _ c.in_default.not-Done) answers);
-      job = c.in_ok-feed.ensures.job ∙ c.pieces.invariant.job;
+      query = c.in_ok-feed.ensures.query ∙ c.pieces.invariant.query;
     }
 
 pub returns-clause-fed : goal.returns-clause-fed

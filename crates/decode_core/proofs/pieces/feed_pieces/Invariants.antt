@@ -5,5 +5,5 @@ use Rattle.decode_core.proofs.pieces.feed_pieces.Given as goal
 abbrev pub invariant-pieces : goal.invariant-pieces
 invariant-pieces g l = record {
   so_far : IsUnderWay l.decoder (flat_map (λ p. p.now) (take l.piece-index l.pieces));
-  job : l.decoder.job ≡ l.fn.decoder.job;
+  query : l.decoder.query ≡ l.fn.decoder.query;
 }

@@ -2,7 +2,7 @@ use Rattle.std.proofs.Common.{rules, arith, ap, take, suc, [], ◌++◌, ◌∙�
 use Rattle.std.proofs.KnownBytes.{Consumes-nil, Consumes-trans}
 use Rattle.std.proofs.lemmas.List.{length-take}
 use Rattle.std.proofs.lemmas.Result.{err_from_is_err_and}
-use Rattle.outcome_core.specs.Outcome.{Job}
+use Rattle.outcome_core.specs.Outcome.{Query}
 use Rattle.decode_core.specs.Streaming.{FailsAfter, FailsAt}
 use Rattle.decode_core.proofs.Streaming.{end_known, ended_known, gives_next, look_feeds, more_by}
 use Rattle.decode_core.proofs.Streaming.{stops_open, trails_within, under_way_open}
@@ -17,7 +17,7 @@ pieces-init g c = record {
     Consumes-nil (g.R.Read.remaining c.args.source.now.device),
     (0, (refl, refl)),
   );
-  job = refl;
+  query = refl;
   quiet = refl;
 }
 
@@ -38,7 +38,7 @@ returns-in_err-used-clause-answers g c =
     let part = take c.in_ok-count.count c.pull.new.part in
     let p = err_from_is_err_and c.from_residual-in_err-used.result
     c.from_residual-in_err-used.ensures.1 in
-    rw (p.1, p.2) (ended_known _ _ c.feed.new.self.job (so_far.0 ++ part) c.in_err-used.field-0.0
+    rw (p.1, p.2) (ended_known _ _ c.feed.new.self.query (so_far.0 ++ part) c.in_err-used.field-0.0
     c.feed.new.self.taken (Consumes-trans _ _ _ so_far.0 part so_far.2
     c.in_ok-count.ensures.bytes.0) (c.in_err-used.ensures.answers so_far.0 so_far.1.led).0.1)
 
@@ -48,7 +48,7 @@ returns-then-used-count-clause-answers g c =
     let part = take c.in_ok-count.count c.pull.new.part in
     let w = whole_by c.pieces.decoder c.feed.new.self (so_far.0 ++ part) c.in_ok-used.field-0
     c.in-Done.used c.in-Done.is (c.in_ok-used.ensures.answers so_far.0 so_far.1.led).0 in
-    trails_within _ _ c.feed.new.self.job (so_far.0 ++ part) w.tree c.feed.new.self.taken
+    trails_within _ _ c.feed.new.self.query (so_far.0 ++ part) w.tree c.feed.new.self.taken
     (Consumes-trans _ _ _ so_far.0 part so_far.2 c.in_ok-count.ensures.bytes.0) w.outcome
     (omega (
       arith,
@@ -102,8 +102,8 @@ pieces-smaller g c =
       length-take c.in_ok-count.count c.pull.new.part,
       c.in_ok-count.ensures.count,
       c.if-count-eq0.false,
-      ap (λ (j : Job). j.bytes)
-          (c.in_ok-used.ensures.job ∙ c.pieces.invariant.job),
+      ap (λ (j : Query). j.bytes)
+          (c.in_ok-used.ensures.query ∙ c.pieces.invariant.query),
     )
 
 pub pieces-preserved : goal.pieces-preserved
@@ -123,7 +123,7 @@ pieces-preserved g c =
               c.pull.new.self.device so_far.3.1 c.in_ok-count.ensures.once,
         ),
       );
-      job = c.in_ok-used.ensures.job ∙ c.pieces.invariant.job;
+      query = c.in_ok-used.ensures.query ∙ c.pieces.invariant.query;
       quiet = search rules;
     }
 
@@ -133,6 +133,6 @@ returns-in_err-count-clause-answers g c =
     let p = err_from_is_err_and c.from_residual.result c.from_residual.ensures.1 in
     rw (p.1, p.2) (stops_open
     (FailsAfter g.R.ReadOnce.reads c.args.source.now.device c.pull.new.self.device) _ _ _
-    c.pieces.decoder.job so_far.0
+    c.pieces.decoder.query so_far.0
     (c.pieces.source.device, so_far.3.0, so_far.3.1, (_, _, c.in_err-count.ensures.once))
     so_far.2 c.in_err-count.ensures.bytes (under_way_open c.pieces.decoder so_far.0 so_far.1))

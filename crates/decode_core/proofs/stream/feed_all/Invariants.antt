@@ -8,9 +8,9 @@ invariant-pieces g l = record {
   so_far : (b : List ℕ) × IsUnderWay l.decoder b
       × Consumes (g.R.Read.remaining l.fn.source.device) (g.R.Read.remaining l.source.device) b
       × ((k : ℕ) × Gives g.R.ReadOnce.reads l.fn.source.device k b l.source.device);
-  job : l.decoder.job ≡ l.fn.decoder.job;
+  query : l.decoder.query ≡ l.fn.decoder.query;
   quiet : l.source.failed ≡ l.fn.source.failed;
 }
 
 abbrev pub decreases-pieces : goal.decreases-pieces
-decreases-pieces g l = l.fn.decoder.job.bytes - l.decoder.taken
+decreases-pieces g l = l.fn.decoder.query.bytes - l.decoder.taken

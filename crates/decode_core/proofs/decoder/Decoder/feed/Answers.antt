@@ -147,7 +147,7 @@ returns-in-Ended-clause-small g c =
     c.give_up.ensures.turns in
     subst (λ (r : Result Running DecodeFault). IsSmall
     (record {
-      job = j;
+      query = j;
       taken = c.in-Ended.taken;
       run = r;
       turns =

@@ -32,14 +32,14 @@ returns-clause-finishes g c = λ b led.
 
 pub returns-clause-small : goal.returns-clause-small
 returns-clause-small g c = λ b led.
-    value_small c.args.self.job b c.into_value.result (returns-clause-finishes g c b led)
+    value_small c.args.self.query b c.into_value.result (returns-clause-finishes g c b led)
 
 pub returns-in_err-feed-clause-finishes : goal.returns-in_err-feed-clause-finishes
 returns-in_err-feed-clause-finishes g c = λ b led.
     let p = err_from_is_err_and c.from_residual-in_err-feed.result
     c.from_residual-in_err-feed.ensures.1 in
     rw (p.1, p.2) (ends_refused c.args.self c.feed.new.self b c.in_err-feed.field-0.0
-    c.in_err-feed.ensures.job (c.in_err-feed.ensures.answers b led).0)
+    c.in_err-feed.ensures.query (c.in_err-feed.ensures.answers b led).0)
 
 pub returns-in_err-feed-clause-memory : goal.returns-in_err-feed-clause-memory
 returns-in_err-feed-clause-memory g c =
@@ -52,7 +52,7 @@ pub returns-in-More-clause-finishes : goal.returns-in-More-clause-finishes
 returns-in-More-clause-finishes g c = λ b led.
     let answers = subst (λ (p : Progress). AnswersPiece c.args.self c.feed.new.self (b ++ [])
     (Ok p)) c.in-More.is (c.in_ok-feed.ensures.answers b led).0 in
-    ends_short c.args.self c.feed.new.self b c.decoder.inside.taken c.in_ok-feed.ensures.job
+    ends_short c.args.self c.feed.new.self b c.decoder.inside.taken c.in_ok-feed.ensures.query
     (ap (λ (d : Decoding). d.taken) c.decoder.view_is) answers
 
 pub returns-2-clause-whole : goal.returns-2-clause-whole
@@ -68,9 +68,9 @@ pub returns-2-clause-finishes : goal.returns-2-clause-finishes
 returns-2-clause-finishes g c = λ b led.
     let run = sym (ap (λ (d : Decoding). d.run) c.decoder.view_is) ∙ c.in_ok-run-2.was in
     ends_by c.args.self c.feed.new.self b c.in_ok-feed.field-0 c.in_ok-run-2.field-0
-    c.into_value-2.result c.in_ok-feed.ensures.job c.in_default-2.not-More run
+    c.into_value-2.result c.in_ok-feed.ensures.query c.in_default-2.not-More run
     c.into_value-2.ensures (c.in_ok-feed.ensures.answers b led)
 
 pub returns-2-clause-small : goal.returns-2-clause-small
 returns-2-clause-small g c = λ b led.
-    value_small c.args.self.job b c.into_value-2.result (returns-2-clause-finishes g c b led)
+    value_small c.args.self.query b c.into_value-2.result (returns-2-clause-finishes g c b led)

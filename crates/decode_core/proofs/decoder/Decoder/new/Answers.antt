@@ -1,13 +1,13 @@
 use Rattle.std.proofs.Common.{◌≡◌, ◌∙◌, [], ap, arith, length, inl}
 use Rattle.value_core.specs.Built.{Built}
-use Rattle.outcome_core.specs.Outcome.{Job}
+use Rattle.outcome_core.specs.Outcome.{Query}
 use Rattle.machine_core.specs.Running.{Running}
 use Rattle.decode_core.proofs.calls.Opening.{first_going}
 use Rattle.decode_core.proofs.decoder.Decoder.new.Goals as goal
 
 pub invariant_of-result : goal.invariant_of-result
 invariant_of-result g c =
-    let j : Job = record {
+    let j : Query = record {
       registry = c.args.checked.now.types;
       ty = c.args.root.0;
       depth =
@@ -33,7 +33,7 @@ invariant_of-result g c =
 
 pub returns-clause-led : goal.returns-clause-led
 returns-clause-led g c =
-    let j : Job = record {
+    let j : Query = record {
       registry = c.args.checked.now.types;
       ty = c.args.root.0;
       depth =

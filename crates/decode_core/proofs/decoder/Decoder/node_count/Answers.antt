@@ -20,4 +20,4 @@ returns-in-Ok-clause-bound g c =
       ap (λ (b : Built). length b.entries) c.builder.ensures,
     ) in
     subst (λ (x : Decoding). c.node_count.result
-    ≤ node_bound x.taken x.job.depth (widest x.job.registry)) c.self.view_is few
+    ≤ node_bound x.taken x.query.depth (widest x.query.registry)) c.self.view_is few

@@ -9,7 +9,7 @@ use Rattle.registry_core.specs.Reading.{params_at, param_at, definition_at, fiel
 use Rattle.registry_core.specs.Reading.{arms_read_at, arm_read_at, type_ids_at, array_at}
 use Rattle.registry_core.specs.Reading.{bit_sequence_at, texts_at}
 use Rattle.registry_core.specs.Spelling.{spelling}
-use Rattle.registry_core.specs.Rows.{FaultRows, MetadataRows, ReadRows}
+use Rattle.registry_core.specs.Examples.{FaultRows, MetadataRows, ReadRows}
 
 -- those that are read
 pub read_rows : ReadRows

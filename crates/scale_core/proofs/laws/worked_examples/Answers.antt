@@ -1,5 +1,5 @@
-use Rattle.scale_core.proofs.Rows.{compact_rows, spelling_rows, text_rows}
-use Rattle.scale_core.proofs.laws.worked_rows.Goals as goal
+use Rattle.scale_core.proofs.Examples.{compact_rows, spelling_rows, text_rows}
+use Rattle.scale_core.proofs.laws.worked_examples.Goals as goal
 
 pub returns-clause-spellings : goal.returns-clause-spellings
 returns-clause-spellings c = spelling_rows

@@ -1,5 +1,5 @@
-use Rattle.registry_core.proofs.Rows.{fault_rows, metadata_rows, read_rows}
-use Rattle.registry_core.proofs.laws.worked_rows.Goals as goal
+use Rattle.registry_core.proofs.Examples.{fault_rows, metadata_rows, read_rows}
+use Rattle.registry_core.proofs.laws.worked_examples.Goals as goal
 
 pub returns-clause-read : goal.returns-clause-read
 returns-clause-read c = read_rows

@@ -4,7 +4,7 @@ use Rattle.std.specs.Str.{is_utf8, chars}
 use Rattle.std.specs.Str.Lossy.{utf8_valid_len}
 use Rattle.scale_core.specs.Compact.{compact}
 use Rattle.scale_core.specs.Read.{compact_at, text_at}
-use Rattle.scale_core.specs.Rows.{CompactRows, SpellingRows, TextRows}
+use Rattle.scale_core.specs.Examples.{CompactRows, SpellingRows, TextRows}
 
 -- spellings of numbers
 pub spelling_rows : SpellingRows
