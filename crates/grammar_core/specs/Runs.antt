@@ -5,7 +5,7 @@ use Rattle.std.specs.Prelude.{Err, if◌then◌else◌}
 use Rattle.std.specs.Str.{is_utf8}
 use Rattle.std.specs.Str.Lossy.{utf8_valid_len}
 use Rattle.scale_core.specs.Compact.{IsCompact, compact}
-use Rattle.scale_core.specs.Read.{Read, bytes_at, compact_at}
+use Rattle.scale_core.specs.Read.{Read, ◌>>=◌, bytes_at, compact_at}
 use Rattle.scale_core.specs.declared.compact.Target.TheVariants as target
 use Rattle.scale_core.specs.declared.fault.Reason.{Reason}
 use Rattle.scale_core.specs.declared.fault.Reason.TheVariants as reason
