@@ -155,8 +155,9 @@ joins_done o j b v n none types ty out = let few = (held_is_bounded j b n).0 v.t
     (none, (types, ty), out, few.0, few.1)
 
 -- the same for a value that a decoder hands out after it was fed
-pub joins_value : (o : Option OpenFault) (j : Query) (d : Decoding) (b : List ℕ) (v : Seen) (n : ℕ) →
-    o ≡ None → d.query ≡ j → (h : IsFed d b) → n ≡ d.taken → FinishesDecoder d.query h.front (Ok v) →
+pub joins_value : (o : Option OpenFault) (j : Query) (d : Decoding) (b : List ℕ) (v : Seen)
+    (n : ℕ) → o ≡ None → d.query ≡ j → (h : IsFed d b) → n ≡ d.taken →
+    FinishesDecoder d.query h.front (Ok v) →
     Joins o j b (Ok (v, n))
 joins_value o j d b v n none same h count f =
     let all : IsOutcome d.query b (done v.tree) f.0 =
@@ -165,7 +166,8 @@ joins_value o j d b v n none same h count f =
     let out : IsOutcome d.query b (done v.tree) n =
     subst (λ (m : ℕ). IsOutcome d.query b (done v.tree) m) (h.ends v.tree f.0 f.3 ∙ sym count)
     all in
-    subst (λ (i : Query). Joins o i b (Ok (v, n))) same (joins_done o d.query b v n none f.1 f.2 out)
+    subst (λ (i : Query). Joins o i b (Ok (v, n))) same
+    (joins_done o d.query b v n none f.1 f.2 out)
 
 -- a fault at the end of a front stays, if a value is on the front or nothing follows it
 fault_stays : (j : Query) (front rest : List ℕ) (n : ℕ) (f : DecodeFault) →
@@ -190,7 +192,7 @@ joins_fault o j d b f none same h fault =
     (none, subst (λ (i : Query). FinishesDecoder i b (Err f)) same all)
 
 -- what ended a decoder on joined pieces is the answer to them
-pub joins_refused : (o : Option OpenFault) (j : Query) (d : Decoding) (b : List ℕ) (f : DecodeFault) →
-    o ≡ None → d.query ≡ j → (n : ℕ) × IsEnded d.query b f n → Joins o j b (Err (pieces.Decode f))
+pub joins_refused : (o : Option OpenFault) (j : Query) (d : Decoding) (b : List ℕ)
+    (f : DecodeFault) → o ≡ None → d.query ≡ j → (n : ℕ) × IsEnded d.query b f n → Joins o j b (Err (pieces.Decode f))
 joins_refused o j d b f none same h =
     (none, inr (subst (λ (i : Query). (n : ℕ) × IsEnded i b f n) same h))

@@ -34,7 +34,8 @@ opened (Some f) first d h = absurd h
 -- ---- where a value ends
 
 -- a value has no more bytes than are there
-pub done_fits : (j : Query) (b : List ℕ) (v : Tree) (n : ℕ) → IsOutcome j b (done v) n → n ≤ length b
+pub done_fits : (j : Query) (b : List ℕ) (v : Tree) (n : ℕ) → IsOutcome j b (done v) n →
+    n ≤ length b
 done_fits j b v n h = omega (
   arith,
   h.5,
@@ -44,7 +45,8 @@ done_fits j b v n h = omega (
 )
 
 -- where a value ends after so many bytes, none ends after another number
-pub done_ends : (j : Query) (b : List ℕ) (v : Tree) (n : ℕ) → IsOutcome j b (done v) n → EndsAt j b n
+pub done_ends : (j : Query) (b : List ℕ) (v : Tree) (n : ℕ) → IsOutcome j b (done v) n →
+    EndsAt j b n
 done_ends j b v n h w m k = (one_outcome j b (done w) (done v) m n k h).1
 
 -- that a value is done is not that more is wanted, so anything follows
@@ -109,8 +111,8 @@ pub done_stays : (j : Query) (b rest : List ℕ) (v : Tree) (n : ℕ) → IsOutc
 done_stays j b rest v n h = outcome_is_kept j b rest (done v) n (λ e. no_value v e) h
 
 -- what all known bytes are, where some were taken and these are left
-pub ended_known : (known left : Option (List ℕ)) (j : Query) (b : List ℕ) (f : DecodeFault) (n : ℕ) →
-    Consumes known left b → IsEnded j b f n →
+pub ended_known : (known left : Option (List ℕ)) (j : Query) (b : List ℕ) (f : DecodeFault)
+    (n : ℕ) → Consumes known left b → IsEnded j b f n →
     IfSome known (λ bytes. FinishesDecoder j bytes (Err f))
 ended_known None left j b f n c h = tt
 ended_known (Some xs) None j b f n c h = absurd c

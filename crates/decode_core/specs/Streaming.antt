@@ -86,7 +86,8 @@ Streams forbidden j fails b left (Err stream.Device) = (forbidden ≡ None)
 -- the value at the front of the joined pieces, how many bytes it takes, and that these bound it;
 -- or, as above, the fault
 abbrev pub Joins : Option OpenFault → Query → List ℕ → Result (Seen × ℕ) PiecesFault → Type 0
-Joins forbidden j b (Ok x) = (forbidden ≡ None) × IsOfQuery j x.0 × IsOutcome j b (done x.0.tree) x.1
+Joins forbidden j b (Ok x) = (forbidden ≡ None) × IsOfQuery j x.0 ×
+    IsOutcome j b (done x.0.tree) x.1
     × (nodes x.0.tree ≤ value_bound x.1 j.depth (widest j.registry)) × (text_bytes x.0.tree ≤ x.1)
 Joins forbidden j b (Err (pieces.Open e)) = Forbids forbidden e
 Joins forbidden j b (Err (pieces.Decode f)) = (forbidden ≡ None) × FinishesDecoder j b (Err f)

@@ -47,7 +47,8 @@ use Rattle.grammar_core.specs.Begun.{BranchOpens}
 use Rattle.grammar_core.specs.Cells.{cells, all_cells}
 use Rattle.grammar_core.proofs.Emptiness.{known_at}
 use Rattle.grammar_core.specs.Spelled.{leaf_spelling, kind_width, width_of, word, index_of}
-use Rattle.grammar_core.specs.Spelled.{index_byte, is_sequence, length_bytes, cell_bytes, own_bytes, spelled}
+use Rattle.grammar_core.specs.Spelled.{index_byte, is_sequence, length_bytes, cell_bytes, own_bytes}
+use Rattle.grammar_core.specs.Spelled.{spelled}
 use Rattle.grammar_core.specs.Spelled.{EncodedIsValue}
 use Rattle.grammar_core.specs.Laws.{OneSpelling}
 

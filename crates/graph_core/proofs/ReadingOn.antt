@@ -123,7 +123,7 @@ left_found a b c d index count o h k f e =
 pub record FaultAhead (r : List TypeInfo) (g : Graph) : Type 0 where
   pub way : IsUnderWay r g
   pub done : left g ≡ []
-  pub ahead : unknown_from (length r) g.cursor.types (drop g.cursor.types r) ≡ first_fault r
+  pub fault_ahead : unknown_from (length r) g.cursor.types (drop g.cursor.types r) ≡ first_fault r
 
 -- an unknown reference that is left of the open type is the first
 pub ahead_found : (r : List TypeInfo) (a b : Graph) (u : ℕ) → IsUnderWay r a →
@@ -153,7 +153,7 @@ ahead_passed r a b h f =
     record {
       way = way_on r a b f.front h f.on front;
       done = f.ended refl;
-      ahead = rw f.on.place ((fault_from r a h).none is);
+      fault_ahead = rw f.on.place ((fault_from r a h).none is);
     }
 
 -- a type that is opened has the first fault, or it is after it
@@ -165,7 +165,7 @@ ahead_opened r a b i d h e place o = (way_opened r a b i d e h.way h.done place 
 pub ahead_none : (r : List TypeInfo) (g : Graph) → FaultAhead r g → length r ≤ g.cursor.types →
     (first_fault r ≡ None) × (g.registry ≡ r) × HasFewLooksUntil r g.looks
 ahead_none r g h le = (
-  sym h.ahead ∙ go g.cursor.types r le,
+  sym h.fault_ahead ∙ go g.cursor.types r le,
   h.way.reading.types,
   few_looks r g h.way.reading,
 ) where

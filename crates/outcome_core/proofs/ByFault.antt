@@ -293,7 +293,8 @@ arms_reported r room h arms [] = (omega arith, refl)
 arms_reported r room h arms (i ∷ b) = arm_reported r room h i b (arm_of arms i)
 
 -- the fault of a value without parts is reported by the bytes that are taken
-pub plain_reported : (p : Plain) (b : List ℕ) → ReportedWithin (λ e. e) b (leaf_taken p b) (leaf_at p b)
+pub plain_reported : (p : Plain) (b : List ℕ) →
+    ReportedWithin (λ e. e) b (leaf_taken p b) (leaf_at p b)
 plain_reported p b =
     as_leaf_reported b _ (read_by (way_of p) b) (way_reported (way_of p) (judges p) b)
 

@@ -20,12 +20,12 @@ use Rattle.decode_core.specs.declared.pieces.PiecesFault.{PiecesFault}
 use Rattle.decode_core.specs.declared.pieces.PiecesFault.TheVariants as pieces
 use Rattle.outcome_core.proofs.Computed.{outcome_is_computed}
 use Rattle.scale_calls.specs.Refused.{opening_refusal, pieces_refusal, value_refusal_by}
-use Rattle.scale_calls.specs.Values.{RefusesValue, value_in, whole}
+use Rattle.scale_calls.specs.Values.{RefusesValue, value_in, value_of_all}
 
 -- the value that an outcome gives to so many bytes
 abbrev value_by : Query → ℕ → Outcome × ℕ → Option Seen
 value_by j len o =
-    option_map (λ v. record { types = j.registry; ty = j.ty; tree = v }) (whole len o.0 o.1)
+    option_map (λ v. record { types = j.registry; ty = j.ty; tree = v }) (value_of_all len o.0 o.1)
 
 -- the value that all bytes spell is what their outcome gives
 pub by_outcome : (j : Query) (b : List ℕ) (one : Outcome) (n : ℕ) → IsOutcome j b one n →
@@ -34,7 +34,7 @@ by_outcome j b one n h = ap (value_by j (length b)) ((outcome_is_computed j b).1
 
 -- a value that was read is that of all bytes where it has as many as there are
 whole_where : (len taken : ℕ) (v : Tree) (same : Bool) → (taken == len) ≡ same →
-    whole len (done v) taken ≡ (if same then Some v else None)
+    value_of_all len (done v) taken ≡ (if same then Some v else None)
 whole_where len taken v same e = ap (λ (t : Bool). if t then Some v else None) e
 
 -- a value is known by its types, its type and its tree

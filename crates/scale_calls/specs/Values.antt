@@ -13,16 +13,16 @@ use Rattle.scale_calls.specs.declared.refusal.ValueRefusal.{ValueRefusal}
 use Rattle.scale_calls.specs.declared.refusal.ValueRefusal.TheVariants as refusal
 
 -- the value, if it takes exactly `len` bytes
-abbrev pub whole : ℕ → Outcome → ℕ → Option Tree
-whole len (done v) taken = if taken == len then Some v else None
-whole len (refused reason at) taken = None
-whole len more taken = None
-whole len too_long taken = None
+abbrev pub value_of_all : ℕ → Outcome → ℕ → Option Tree
+value_of_all len (done v) taken = if taken == len then Some v else None
+value_of_all len (refused reason at) taken = None
+value_of_all len more taken = None
+value_of_all len too_long taken = None
 
 -- the value of the job's type that all the bytes spell
 abbrev pub value_in : Query → List ℕ → Option Seen
 value_in j bytes = option_map (λ v. record { types = j.registry; ty = j.ty; tree = v })
-    (whole (length bytes) (outcome_of j bytes).0 (outcome_of j bytes).1)
+    (value_of_all (length bytes) (outcome_of j bytes).0 (outcome_of j bytes).1)
 
 -- why bytes are rejected: the type or a limit, a fault of the bytes, or bytes that follow the
 -- value, unless an allocation failed

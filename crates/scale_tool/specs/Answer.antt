@@ -24,8 +24,8 @@ abbrev pub line_of : Seen → List ℕ
 line_of v = json_text v ++ 10 ∷ []
 
 -- the text of a value's file, if neither it nor the registry's is rejected
-abbrev pub value_text : Bool → Bool → ℕ → ℕ → List ℕ → List ℕ → Option (List ℕ)
-value_text metadata hex id depth registry value =
+abbrev pub value_line : Bool → Bool → ℕ → ℕ → List ℕ → List ℕ → Option (List ℕ)
+value_line metadata hex id depth registry value =
     option_and_then (λ types. option_map line_of (file_value hex (decoding id depth types) value))
     (types_with metadata id registry)
 
@@ -43,7 +43,7 @@ OnText (job.Types metadata) (Some registry) value P = P (types_text metadata reg
 OnText (job.Decode id metadata hex depth) None value P = Unit {0}
 OnText (job.Decode id metadata hex depth) (Some registry) None P = Unit {0}
 OnText (job.Decode id metadata hex depth) (Some registry) (Some value) P =
-    P (value_text metadata hex id depth registry value)
+    P (value_line metadata hex id depth registry value)
 
 -- the complete text was written
 abbrev pub WritesAll : Option (List ℕ) → Option (List ℕ) → Option (List ℕ) → Type 0

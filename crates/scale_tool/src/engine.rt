@@ -8,7 +8,7 @@ ghost use Rattle.decode_core.specs.Streaming.{FailsAfter};
 ghost use Rattle.command_line.specs.Line.{IsServed};
 ghost use Rattle.scale_tool.specs.Answer.{HasJobType, OnText, ReadsNoValue, StopsJob};
 ghost use Rattle.scale_tool.specs.Answer.{StopsValue, WritesAll, WritesFront, line_of, types_text};
-ghost use Rattle.scale_tool.specs.Answer.{types_with, value_text};
+ghost use Rattle.scale_tool.specs.Answer.{types_with, value_line};
 ghost use Rattle.scale_tool.specs.Devices.{FailsReading, FailsWriting};
 ghost use Rattle.scale_tool.specs.Refused.{IsDevice, IsRejected, status_of};
 ghost use Rattle.scale_tool.specs.Reported.{Faults, FaultsDecode, FaultsRegistry, Reports, Stands};
@@ -17,7 +17,7 @@ ghost use Rattle.scale_tool.specs.Reported.{refusal_line};
 use crate::lines::refusal_line;
 use crate::refusal::Refusal;
 use crate::registry::{read_types, read_types_with};
-use crate::value::read_value;
+use crate::value::read_value_file;
 use command_line::Job;
 use json_core::json_text;
 use scale_calls::{push_type_lines, version_line};
@@ -58,7 +58,7 @@ fn types_text<R: ReadOnce>(
 }
 
 /// Returns the line of a value.
-fn value_text<R: ReadOnce, V: ReadOnce>(
+fn value_line<R: ReadOnce, V: ReadOnce>(
     alloc: Global,
     metadata: bool,
     hex: bool,
@@ -70,10 +70,10 @@ fn value_text<R: ReadOnce, V: ReadOnce>(
     requires { depth ≤ 1024 }
     ensures ok { IfOk result (λ text. IfSome (R.remaining registry.old.device)
         (λ r. IfSome (V.remaining value.old.device)
-        (λ v. value_text metadata hex id depth r v ≡ Some (string_bytes text)))) }
+        (λ v. value_line metadata hex id depth r v ≡ Some (string_bytes text)))) }
     ensures refused { IfErr result (λ e. IsRejected e →
         IfSome (R.remaining registry.old.device) (λ r. IfSome (V.remaining value.old.device)
-        (λ v. value_text metadata hex id depth r v ≡ None))) }
+        (λ v. value_line metadata hex id depth r v ≡ None))) }
     ensures faults { IfErr result (FaultsDecode metadata hex id depth
         (R.remaining registry.old.device) (V.remaining value.old.device)) }
     ensures registry_failed { IsErrOf result Refusal.RegistryDevice →
@@ -90,7 +90,7 @@ fn value_text<R: ReadOnce, V: ReadOnce>(
         (λ r. (types : List TypeInfo) × (types_with metadata id r ≡ Some types))) }
 {
     let checked = read_types_with(alloc, metadata, id, registry)?;
-    let value = read_value(alloc, &checked, id, depth, hex, value)?;
+    let value = read_value_file(alloc, &checked, id, depth, hex, value)?;
     Ok(line_text(alloc, &value)?)
 }
 
@@ -129,7 +129,7 @@ fn answer<R: ReadOnce, V: ReadOnce>(
             metadata,
             hex,
             depth,
-        } => value_text(alloc, metadata, hex, id, depth, registry, value),
+        } => value_line(alloc, metadata, hex, id, depth, registry, value),
     }
 }
 

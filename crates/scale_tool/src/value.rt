@@ -64,7 +64,7 @@ fn of_stream(fault: StreamFault) -> Refusal
 /// - `Hex`: the text spells no bytes. The place is in the text.
 /// - `ValueDevice`: a read failed.
 /// - `Memory`: an allocation failed.
-pub(crate) fn read_value<'r, V: ReadOnce>(
+pub(crate) fn read_value_file<'r, V: ReadOnce>(
     alloc: Global,
     checked: &'r Checked,
     id: u32,

@@ -6,8 +6,8 @@ ghost use Rattle.token_core.specs.Places.{OnlyPlaced};
 
 use std::simd::prelude::*;
 
-/// How many bytes are turned into digits at once.
-const BLOCK: usize = 16;
+/// How many bytes are turned into digits, or escaped, at once.
+pub(crate) const BLOCK: usize = 16;
 
 /// The sixteen digits, by their value.
 const DIGITS: [u8; BLOCK] = *b"0123456789abcdef";

@@ -10,10 +10,11 @@ ghost use Rattle.json.specs.Token.{number, boolean, null};
 ghost use Rattle.token_core.specs.Places.{Appended};
 ghost use Rattle.plain_core.specs.Plain.{AreEscapes};
 
+use crate::digits::BLOCK;
 use crate::places::{
     place_between, place_byte, place_bytes, place_comma, place_decimal, place_long,
 };
-use crate::strings::{BLOCK, place_escaped, place_hex_text};
+use crate::strings::{place_escaped, place_hex_text};
 use plain_core::{Escapes, is_plain};
 use std::alloc::{AllocError, Allocator};
 use std::marker::Model;
@@ -57,7 +58,7 @@ impl<A: Allocator> Model for Output<A> {
 
 /// Ensures that `more` bytes follow the first `len`.
 #[inline(always)]
-fn make_room<A: Allocator>(
+fn ensure_bytes<A: Allocator>(
     bytes: &mut Vec<u8, A>,
     len: usize,
     more: usize,
@@ -111,18 +112,18 @@ fn append_quoted<A: Allocator>(
     ensures same { take len bytes.new.items ≡ take len bytes.old.items }
     ensures kept { length bytes.old.items ≤ length bytes.new.items }
 {
-    make_room(bytes, len, 2)?;
+    ensure_bytes(bytes, len, 2)?;
     let buffer = bytes.as_mut_slice();
     let first = place_comma(buffer, len, comma);
     let mut end = place_byte(buffer, first, b'"');
     let mut rest = text;
     'blocks: while !rest.is_empty() {
         let (block, after) = rest.split_at(rest.len().min(BLOCK));
-        make_room(bytes, end, 6 * block.len())?;
+        ensure_bytes(bytes, end, 6 * block.len())?;
         end = place_escaped(bytes.as_mut_slice(), end, block);
         rest = after;
     }
-    make_room(bytes, end, 1)?;
+    ensure_bytes(bytes, end, 1)?;
     Ok(place_byte(bytes.as_mut_slice(), end, b'"'))
 }
 
@@ -189,7 +190,7 @@ impl<A: Allocator> Output<A> {
     fn put(&mut self, role: Role, characters: &str) -> Result<(), AllocError>
         ensures { OnOk result (self.new ≡ put self.old role characters.now) }
     {
-        make_room(&mut self.bytes, self.len, characters.len() + 1)?;
+        ensure_bytes(&mut self.bytes, self.len, characters.len() + 1)?;
         let buffer = self.bytes.as_mut_slice();
         let at = place_comma(buffer, self.len, role.takes_comma(self.after_value));
         self.len = place_bytes(buffer, at, characters.as_bytes());
@@ -211,7 +212,7 @@ impl<A: Allocator> Output<A> {
         ensures { OnOk result (self.new ≡ put self.old role
             (opening.now ++ (characters.now ++ closing.now))) }
     {
-        make_room(&mut self.bytes, self.len, characters.len() + 6)?;
+        ensure_bytes(&mut self.bytes, self.len, characters.len() + 6)?;
         let buffer = self.bytes.as_mut_slice();
         let at = place_comma(buffer, self.len, role.takes_comma(self.after_value));
         let (opening, closing) = (opening.as_bytes(), closing.as_bytes());
@@ -320,7 +321,7 @@ impl<A: Allocator> Output<A> {
     pub fn unsigned(&mut self, n: u64) -> Result<(), AllocError>
         ensures { AddsTokens result self.old self.new (number (decimal n) ∷ []) }
     {
-        make_room(&mut self.bytes, self.len, 21)?;
+        ensure_bytes(&mut self.bytes, self.len, 21)?;
         let buffer = self.bytes.as_mut_slice();
         let at = place_comma(buffer, self.len, self.after_value);
         self.len = place_decimal(buffer, at, n);
@@ -349,7 +350,7 @@ impl<A: Allocator> Output<A> {
     pub fn quoted_unsigned(&mut self, n: u128) -> Result<(), AllocError>
         ensures { AddsTokens result self.old self.new (string (decimal n) ∷ []) }
     {
-        make_room(&mut self.bytes, self.len, 42)?;
+        ensure_bytes(&mut self.bytes, self.len, 42)?;
         let buffer = self.bytes.as_mut_slice();
         let at = place_comma(buffer, self.len, self.after_value);
         let first = place_byte(buffer, at, b'"');
@@ -468,7 +469,7 @@ impl<A: Allocator> Output<A> {
         let Some(room) = digits.checked_add(5) else {
             return Err(AllocError);
         };
-        make_room(&mut self.bytes, self.len, room)?;
+        ensure_bytes(&mut self.bytes, self.len, room)?;
         let buffer = self.bytes.as_mut_slice();
         let at = place_comma(buffer, self.len, self.after_value);
         self.len = place_hex_text(buffer, at, bytes);

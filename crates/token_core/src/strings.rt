@@ -7,12 +7,9 @@ ghost use Rattle.json.specs.Filled.{Placed};
 ghost use Rattle.json.specs.Print.{escape, escape_byte, escape_letter, quoted};
 ghost use Rattle.token_core.specs.Places.{OnlyPlaced};
 
-use crate::digits::place_hex;
+use crate::digits::{BLOCK, place_hex};
 use crate::places::{place_between, place_byte, place_bytes};
 use plain_core::is_plain_16;
-
-/// How many bytes of a text are escaped at once.
-pub(crate) const BLOCK: usize = 16;
 
 /// Writes a text that needs no escape between quotes, and returns the position after it. The rest
 /// of the buffer is unchanged.

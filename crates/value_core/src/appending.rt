@@ -28,7 +28,7 @@ use types_core::TypeId;
 ///
 /// `AllocError` if the allocation for one more fails. Nothing that is there changes in either case.
 #[inline(always)]
-fn make_room<A: Allocator>(
+fn room_for_node<A: Allocator>(
     nodes: &mut GrowVec<Node, A>,
     pool: &mut GrowVec<u8, A>,
     walk: &Walk<'_, A>,
@@ -40,7 +40,7 @@ fn make_room<A: Allocator>(
     if nodes.has_room(1) {
         return Ok(());
     }
-    walk.make_room(nodes, pool)
+    walk.grow_for_node(nodes, pool)
 }
 
 /// Appends a node without children, and to the pool what does not fit it: both, or
@@ -59,7 +59,7 @@ pub(crate) fn append<A: Allocator>(
     ensures err { OnErr result ((nodes.new.list.items ≡ nodes.old.list.items)
         × (pool.new.list.items ≡ pool.old.list.items)) }
 {
-    make_room(nodes, pool, walk)?;
+    room_for_node(nodes, pool, walk)?;
     let content = leaf.keep(pool)?;
     let node = Node {
         ty,
@@ -82,7 +82,7 @@ pub(crate) fn append_node<A: Allocator>(
     ensures err { OnErr result (nodes.new.list.items ≡ nodes.old.list.items) }
     ensures pool { pool.new.list.items ≡ pool.old.list.items }
 {
-    make_room(nodes, pool, walk)?;
+    room_for_node(nodes, pool, walk)?;
     nodes.push_reserved(node);
     Ok(())
 }
@@ -208,7 +208,7 @@ impl<'r, A: Allocator> RawBuilder<'r, A> {
             return self.add_childless(content, left);
         }
         let ty = self.walk.ty();
-        make_room(&mut self.nodes, &mut self.pool, &self.walk)?;
+        room_for_node(&mut self.nodes, &mut self.pool, &self.walk)?;
         self.walk.enter(self.nodes.as_slice().len(), left)?;
         self.nodes.push_reserved(Node {
             ty,

@@ -266,7 +266,7 @@ impl<'r, A: Allocator> Walk<'r, A> {
     /// `AllocError` if the allocation for one node fails; nothing that is there changes.
     #[cold]
     #[inline(never)]
-    pub(crate) fn make_room(
+    pub(crate) fn grow_for_node(
         &self,
         nodes: &mut GrowVec<Node, A>,
         pool: &mut GrowVec<u8, A>,

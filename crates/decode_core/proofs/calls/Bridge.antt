@@ -258,7 +258,8 @@ fed_refused j b piece s last n k held reported_reason at len g le m st =
 -- ---- memory is wanted
 
 -- turns that end at an allocation failure report that it was wanted after all bytes taken
-pub fed_short : (j : Query) (b piece : List ℕ) (s last : Running) (n k : ℕ) → (g : IsGoing j b s n) →
+pub fed_short : (j : Query) (b piece : List ℕ) (s last : Running) (n k : ℕ) →
+    (g : IsGoing j b s n) →
     k ≤ length (offered j n piece) → Moves s last (take k (offered j n piece)) →
     WantsMemory last (drop k (offered j n piece)) → IsSound last → RanOut j (b ++ piece) (n + k)
 unfolding here

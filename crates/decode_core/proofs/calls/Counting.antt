@@ -88,8 +88,8 @@ done_few j b s last n x g m =
     )
 
 -- a decoder that a piece led to has no more nodes than the bound for all bytes taken
-reached_few : (j : Query) (b : List ℕ) (s last : Running) (n : ℕ) (x : List ℕ) → RunLed j b n (Ok s) →
-    Moves s last x → length last.built.entries ≤ node_bound (n + length x)
+reached_few : (j : Query) (b : List ℕ) (s last : Running) (n : ℕ) (x : List ℕ) →
+    RunLed j b n (Ok s) → Moves s last x → length last.built.entries ≤ node_bound (n + length x)
     j.depth (widest j.registry)
 reached_few j b s last n x (inl g) m =
     let few = state_few j.registry j.depth j.ty (state_of last.built) (g.own ++ m.own)
@@ -123,8 +123,8 @@ reached_few j b s last n x (inr h) m =
 -- ---- the turns on a piece
 
 -- with n bytes taken in all, which are no fewer than those that the turns took
-counts_end : (j : Query) (b slice : List ℕ) (s last : Running) (taken k n from to calls closed : ℕ) →
-    RunLed j b taken (Ok s) → Moves s last (take k slice) → FewTurns s last k from to →
+counts_end : (j : Query) (b slice : List ℕ) (s last : Running) (taken k n from to calls closed : ℕ)
+    → RunLed j b taken (Ok s) → Moves s last (take k slice) → FewTurns s last k from to →
     IsSound last → closed ≡ last.built.turns →
     from ≤ taken + length s.built.entries + calls → taken + k ≤ n →
     to + closed ≤ n + 2 * node_bound n j.depth (widest j.registry) + suc calls

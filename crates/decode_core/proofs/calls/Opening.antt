@@ -71,8 +71,8 @@ asks_at_end d n f h is = elim (h is) [
 ]
 
 -- where the empty last piece leaves more wanted, the decoder finishes with missing bytes
-pub ends_short : (old new : Decoding) (b : List ℕ) (at : ℕ) → new.query ≡ old.query → at ≡ new.taken →
-    AnswersPiece old new (b ++ []) (Ok progress.More) →
+pub ends_short : (old new : Decoding) (b : List ℕ) (at : ℕ) → new.query ≡ old.query →
+    at ≡ new.taken → AnswersPiece old new (b ++ []) (Ok progress.More) →
     FinishesDecoder old.query b (Err (record { reason = reason.Truncated; at = at }))
 ends_short old new b at same is h =
     let at_end : IsOutcome old.query b more new.taken =

@@ -14,7 +14,8 @@ returns-in_err-feed_pieces g c =
     let query = c.in_err-feed_pieces.ensures.query ∙ ap (λ (d : Decoding). d.query) first.1 in
     let p = err_from_is_err_and c.from_residual-in_err-feed_pieces.result
     c.from_residual-in_err-feed_pieces.ensures.1 in
-    rw (p.1, p.2) (joins_refused fault (query_of c.args.checked.now.types c.args.root.0 c.args.limits)
+    rw (p.1, p.2) (joins_refused fault (query_of c.args.checked.now.types c.args.root.0
+    c.args.limits)
     c.feed_pieces.new.decoder _ c.in_err-feed_pieces.field-0.0 first.0 query
     c.in_err-feed_pieces.ensures.refused)
 

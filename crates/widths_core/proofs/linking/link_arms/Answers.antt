@@ -17,6 +17,7 @@ use Rattle.widths_core.proofs.RowTo.{row_none, row_has, row_lacks, row_shadowed,
 use Rattle.widths_core.proofs.RowTo.{row_all}
 use Rattle.widths_core.proofs.linking.link_arms.Goals as goal
 use Rattle.widths_core.proofs.linking.link_arms.Goals.{in-Ok+in_ok-link_parts-in-Ok}
+use Rattle.widths_core.proofs.linking.link_arms.Goals.{}
 use Rattle.widths_core.proofs.linking.link_arms.Goals.{in-Err+in_ok-from-in-Err+in_ok-number-in-Err+in_ok-insert-in-Err}
 
 pub arms-init : goal.arms-init

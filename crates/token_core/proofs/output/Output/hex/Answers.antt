@@ -11,7 +11,7 @@ place_hex_text-self-inside-requires g c =
     let room : c.in-Some-checked_add.room ≡ c.in-Some.digits + 5 = search rules in
     omega (
       arith,
-      c.in_ok-make_room.ensures.ok,
+      c.in_ok-ensure_bytes.ensures.ok,
       c.place_comma-at.ensures.moved,
       comma_short c.self.inside.after_value,
       digits,
@@ -21,15 +21,16 @@ place_hex_text-self-inside-requires g c =
     )
 
 pub invariant_of-self-2 : goal.invariant_of-self-2
-invariant_of-self-2 g c = utf8_after _ (appended c.self.invariant.0 c.in_ok-make_room.ensures.same
-    c.in_ok-make_room.ensures.kept c.as_mut_slice-buffer.ensures.value
+invariant_of-self-2 g c = utf8_after _ (appended c.self.invariant.0
+    c.in_ok-ensure_bytes.ensures.same
+    c.in_ok-ensure_bytes.ensures.kept c.as_mut_slice-buffer.ensures.value
     c.as_mut_slice-buffer.ensures.len
     (Placed-then c.place_comma-at.ensures c.place_hex_text-self-inside.ensures.placed))
     c.self.invariant.1 (hex_utf8 c.args.bytes.now c.type_inv.bytes)
 
 pub returns : goal.returns
-returns g c = token_after _ (appended c.self.invariant.0 c.in_ok-make_room.ensures.same
-    c.in_ok-make_room.ensures.kept c.as_mut_slice-buffer.ensures.value
+returns g c = token_after _ (appended c.self.invariant.0 c.in_ok-ensure_bytes.ensures.same
+    c.in_ok-ensure_bytes.ensures.kept c.as_mut_slice-buffer.ensures.value
     c.as_mut_slice-buffer.ensures.len
     (Placed-then c.place_comma-at.ensures c.place_hex_text-self-inside.ensures.placed))
     c.args.self.now (string (48 ∷ 120 ∷ encode_lower c.args.bytes.now)) c.self.view_is refl refl

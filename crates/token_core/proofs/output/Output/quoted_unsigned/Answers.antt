@@ -15,7 +15,7 @@ place_byte-self-inside-requires g c =
     omega (
       arith,
       short,
-      c.in_ok-make_room.ensures.ok,
+      c.in_ok-ensure_bytes.ensures.ok,
       comma_short c.self.inside.after_value,
       c.place_comma-at.ensures.moved,
       c.place_byte-first.ensures.moved,
@@ -30,8 +30,8 @@ pub invariant_of-self-2 : goal.invariant_of-self-2
 invariant_of-self-2 g c =
     let quote = IsUtf8-are_ascii (34 ∷ []) refl in
     let digits = IsUtf8-from_ascii _ (IsAscii-decimal_wide c.args.n (search rules)) in
-    utf8_after _ (appended c.self.invariant.0 c.in_ok-make_room.ensures.same
-    c.in_ok-make_room.ensures.kept c.as_mut_slice-buffer.ensures.value
+    utf8_after _ (appended c.self.invariant.0 c.in_ok-ensure_bytes.ensures.same
+    c.in_ok-ensure_bytes.ensures.kept c.as_mut_slice-buffer.ensures.value
     c.as_mut_slice-buffer.ensures.len
     (Placed-then c.place_comma-at.ensures (Placed-then
     c.place_byte-first.ensures
@@ -39,8 +39,8 @@ invariant_of-self-2 g c =
     c.self.invariant.1 (IsUtf8-append _ _ quote (IsUtf8-append _ _ digits quote))
 
 pub returns : goal.returns
-returns g c = token_after _ (appended c.self.invariant.0 c.in_ok-make_room.ensures.same
-    c.in_ok-make_room.ensures.kept c.as_mut_slice-buffer.ensures.value
+returns g c = token_after _ (appended c.self.invariant.0 c.in_ok-ensure_bytes.ensures.same
+    c.in_ok-ensure_bytes.ensures.kept c.as_mut_slice-buffer.ensures.value
     c.as_mut_slice-buffer.ensures.len
     (Placed-then c.place_comma-at.ensures (Placed-then
     c.place_byte-first.ensures

@@ -31,7 +31,7 @@ close_complete-requires g c =
         c.in_ok-enter.ensures.ok,
         c.push_reserved.ensures.items,
         c.as_slice.ensures.value,
-        c.make_room.ensures.nodes,
+        c.room_for_node.ensures.nodes,
       ) b,
     )
 
@@ -57,15 +57,15 @@ invariant_of-self-2 g c =
             c.in_ok-enter.ensures.ok,
             c.push_reserved.ensures.items,
             c.as_slice.ensures.value,
-            c.make_room.ensures.nodes,
-            c.make_room.ensures.pool,
+            c.room_for_node.ensures.nodes,
+            c.room_for_node.ensures.pool,
           ) b),
       stays_exact _ _ _ _ _ _ _ closed c.self.invariant.1
           (rw (
             c.close_complete.ensures.settles.kept,
             c.push_reserved.ensures.items,
-            c.make_room.ensures.nodes,
-            c.make_room.ensures.pool,
+            c.room_for_node.ensures.nodes,
+            c.room_for_node.ensures.pool,
           )
           (ap (λ (k : ℕ). k + length c.self.inside.pool.list.items)
           (open_kept c.self.inside.walk c.self.inside.nodes.list.items n
@@ -73,7 +73,8 @@ invariant_of-self-2 g c =
       rw c.close_complete.ensures.walk (settled_again c.enter.new.self),
       settled_paid _ _ _ _ _ _ c.close_complete.ensures.settles c.close_complete.ensures.walk
           c.close_complete.ensures.turns
-          (rw (c.in_ok-enter.ensures.ok, c.push_reserved.ensures.items, c.make_room.ensures.nodes)
+          (rw (c.in_ok-enter.ensures.ok, c.push_reserved.ensures.items,
+          c.room_for_node.ensures.nodes)
           (open_paid c.self.inside.walk c.self.inside.nodes.list.items n
           (length c.self.inside.nodes.list.items) c.self.inside.turns.so_far
           (left_of c.self.inside.walk.types c.args.left) c.self.invariant.3)),

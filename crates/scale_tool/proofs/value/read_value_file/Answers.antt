@@ -3,7 +3,7 @@ use Rattle.scale_tool.specs.Values.{decoding}
 use Rattle.scale_tool.specs.declared.refusal.Refusal.TheVariants as refusal
 use Rattle.scale_tool.proofs.FileValues.{hex_reports, stream_no_value, stream_reports, stream_stops}
 use Rattle.scale_tool.proofs.FileValues.{stream_value, within}
-use Rattle.scale_tool.proofs.value.read_value.Goals as goal
+use Rattle.scale_tool.proofs.value.read_value_file.Goals as goal
 
 pub returns-in-Ok-clause-value : goal.returns-in-Ok-clause-value
 returns-in-Ok-clause-value g c = stream_value c.args.hex

@@ -1,6 +1,6 @@
 use Rattle.std.proofs.lemmas.Result.{err_from_is_err_and}
 use Rattle.scale_tool.proofs.Reports.{value_faults}
-use Rattle.scale_tool.proofs.engine.value_text.Goals as goal
+use Rattle.scale_tool.proofs.engine.value_line.Goals as goal
 
 pub returns-in_err-checked-clause-faults : goal.returns-in_err-checked-clause-faults
 returns-in_err-checked-clause-faults g c =
