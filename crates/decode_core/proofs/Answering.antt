@@ -193,6 +193,7 @@ joins_fault o j d b f none same h fault =
 
 -- what ended a decoder on joined pieces is the answer to them
 pub joins_refused : (o : Option OpenFault) (j : Query) (d : Decoding) (b : List ℕ)
-    (f : DecodeFault) → o ≡ None → d.query ≡ j → (n : ℕ) × IsEnded d.query b f n → Joins o j b (Err (pieces.Decode f))
+    (f : DecodeFault) → o ≡ None → d.query ≡ j → (n : ℕ) × IsEnded d.query b f n →
+    Joins o j b (Err (pieces.Decode f))
 joins_refused o j d b f none same h =
     (none, inr (subst (λ (i : Query). (n : ℕ) × IsEnded i b f n) same h))
