@@ -3,7 +3,7 @@ use Rattle.std.specs.Prelude.{◌≡◌, ℕ, List, None, Result, Ok, Err}
 use Rattle.scale_core.specs.Read.{Read, place}
 use Rattle.scale_core.specs.declared.fault.Fault.{Fault}
 use Rattle.scale_core.specs.declared.fault.Reason.{Reason}
-use Rattle.grammar_core.specs.Reading.{basic, leaf_at}
+use Rattle.grammar_core.specs.Reading.{basic, leaf_at, leaf_own}
 use Rattle.node_core.specs.Leaves.{leaf_head}
 use Rattle.node_core.specs.declared.leaf.Leaf.{Leaf}
 use Rattle.form_core.specs.NodeForms.{plain_layout}

@@ -14,7 +14,7 @@ use Rattle.grammar_core.specs.Cells.{Cell, cells, all_cells, child_type, part_of
 use Rattle.grammar_core.specs.Begun.{FirstValues, IsOpenAs}
 use Rattle.grammar_core.specs.Spelled.{cell_bytes, own_bytes}
 use Rattle.grammar_core.proofs.OpenNodes.{child_is}
-use Rattle.grammar_core.proofs.Spelled.{encoded_is_value}
+use Rattle.grammar_core.proofs.Spelled.{encoded_is_value, branch_own}
 use Rattle.value_core.specs.Spine.{OpenNode, open_cells, Spine}
 use Rattle.value_core.specs.Walked.{OpenPart}
 use Rattle.value_core.proofs.Spines.{part_is}

@@ -21,7 +21,7 @@ use Rattle.grammar_core.specs.Spelled.{index_of}
 use Rattle.grammar_core.specs.Parts.{Part, each, first_of, how_many_left}
 use Rattle.grammar_core.specs.Preorder as head
 use Rattle.grammar_core.specs.Tree as tree
-use Rattle.grammar_core.specs.Preorder.{Head, tree_with, tree_of}
+use Rattle.grammar_core.specs.Preorder.{Head, tree_with, tree_of, Entry}
 use Rattle.node_core.specs.Shown.{Seen, head_shown}
 use Rattle.grammar_core.specs.Begun.{BranchOpens}
 use Rattle.value_core.specs.Walked.{OpenPart, Walked, next_of, next_type, advanced, opened}
