@@ -15,7 +15,7 @@ use Rattle.grammar_core.specs.Reading.{Refusal, truncated}
 use Rattle.form_core.specs.declared.forms.BytesForm.{BytesForm}
 use Rattle.form_core.specs.declared.forms.BytesForm.TheVariants as bytes
 use Rattle.outcome_core.specs.Decided.{Decided}
-use Rattle.outcome_core.specs.Machine.{remain, to_go, is_cut}
+use Rattle.outcome_core.specs.Machine.{remain, to_go, is_cut, TurnLeads}
 use Rattle.machine_core.specs.NodeAdds.{IsSpelled}
 use Rattle.machine_core.specs.Reasons.{reason_of}
 use Rattle.machine_core.specs.Running.{Running, IsCarry, IsRunNext, state_of, held_of}
