@@ -1,22 +1,18 @@
--- The results for all bytes of a reader, and for joined pieces.
+-- The results for all bytes of a reader.
 use Rattle.std.specs.Prelude.{◌≡◌, ℕ, zero, suc, ◌<◌, ◌≤◌, ◌⊎◌, Bool, true, false}
 use Rattle.std.specs.Prelude.{List, [], ◌++◌, length, take}
 use Rattle.std.specs.Prelude.{Result, Ok, Err, Option, Some, None, IfSome}
 use Rattle.std.specs.Io.KnownBytes.{Consumes, IsAtEnd, Keeps}
 use Rattle.types_core.specs.declared.type_info.TypeInfo.{TypeInfo}
-use Rattle.graph_core.specs.Widths.{widest}
-use Rattle.grammar_core.specs.Tree.{Tree, nodes, text_bytes}
+use Rattle.grammar_core.specs.Tree.{Tree}
 use Rattle.node_core.specs.Shown.{Seen}
 use Rattle.limits_core.specs.declared.limits.Limits.{Limits}
-use Rattle.outcome_core.specs.Bound.{value_bound}
 use Rattle.outcome_core.specs.Outcome.{Query, done, more, IsOutcome}
 use Rattle.decode_core.specs.Decoding.{Decoding, FinishesDecoder, Led, first_of_all}
 use Rattle.decode_core.specs.declared.fault.OpenFault.{OpenFault}
 use Rattle.decode_core.specs.declared.fault.OpenFault.TheVariants as opening
 use Rattle.decode_core.specs.declared.stream.StreamFault.{StreamFault}
 use Rattle.decode_core.specs.declared.stream.StreamFault.TheVariants as stream
-use Rattle.decode_core.specs.declared.pieces.PiecesFault.{PiecesFault}
-use Rattle.decode_core.specs.declared.pieces.PiecesFault.TheVariants as pieces
 
 -- what is decoded: a type of a registry, within these limits
 abbrev pub query_of : List TypeInfo → ℕ → Limits → Query
@@ -83,15 +79,6 @@ Streams forbidden j fails b left (Err (stream.TrailingBytes at)) = (forbidden �
 Streams forbidden j fails b left (Err stream.Device) = (forbidden ≡ None)
     × StopsOpen j fails (Some b) left
 
--- the value at the front of the joined pieces, how many bytes it takes, and that these bound it;
--- or, as above, the fault
-abbrev pub Joins : Option OpenFault → Query → List ℕ → Result (Seen × ℕ) PiecesFault → Type 0
-Joins forbidden j b (Ok x) = (forbidden ≡ None) × IsOfQuery j x.0 ×
-    IsOutcome j b (done x.0.tree) x.1
-    × (nodes x.0.tree ≤ value_bound x.1 j.depth (widest j.registry)) × (text_bytes x.0.tree ≤ x.1)
-Joins forbidden j b (Err (pieces.Open e)) = Forbids forbidden e
-Joins forbidden j b (Err (pieces.Decode f)) = (forbidden ≡ None) × FinishesDecoder j b (Err f)
-
 -- ---- on the way
 
 -- these bytes have led to the decoder, and either there are none or the value is incomplete
@@ -123,12 +110,3 @@ FeedsAll d fails known left (Err (stream.Decode f)) =
     IfSome known (λ bytes. FinishesDecoder d.query bytes (Err f))
 FeedsAll d fails known left (Err stream.Device) = StopsOpen d.query fails known left
 FeedsAll d fails known left (Err _) = ⊥
-
--- the front of these bytes has led to the decoder, and its value is complete, or nothing follows
-pub record IsFed (d : Decoding) (b : List ℕ) : Type 0 where
-  pub front : List ℕ
-  pub rest : List ℕ
-  pub is : b ≡ front ++ rest
-  pub led : Led d front
-  pub ends : EndsAt d.query front d.taken
-  pub whole : ((v : Tree) × IsOutcome d.query front (done v) d.taken) ⊎ (rest ≡ [])

@@ -5,11 +5,9 @@
 mod decoder;
 mod fault;
 pub mod laws;
-mod pieces;
 mod stream;
 
 pub use decoder::{Decoder, Progress};
 pub use fault::{DecodeFault, OpenFault};
 pub use machine_core::DecodeReason;
-pub use pieces::{PiecesFault, decode_pieces};
 pub use stream::{StreamFault, decode_all};

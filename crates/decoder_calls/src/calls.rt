@@ -1,9 +1,7 @@
 //! Wrappers of the calls with which tests decode and show values. The contracts of these calls stay
 //! here, so that no test's proof has to read them.
 
-use decode_core::{
-    DecodeFault, Decoder, OpenFault, PiecesFault, Progress, StreamFault, decode_all, decode_pieces,
-};
+use decode_core::{DecodeFault, Decoder, OpenFault, Progress, StreamFault, decode_all};
 use json_core::{json_text, print, to_json};
 use registry_core::TypeId;
 use scale_core::{Sink, Source};
@@ -99,15 +97,22 @@ pub fn all_of<'r, A: Allocator + Clone, R: Read>(
 ///
 /// # Errors
 ///
-/// Those of `decode_pieces`.
+/// Those of [`Decoder`].
 pub fn front_of<'r, A: Allocator + Clone>(
     memory: A,
     checked: &'r Checked,
     ty: u32,
     limits: Limits,
     pieces: &[&[u8]],
-) -> Result<(Value<'r, A>, u64), PiecesFault> {
-    decode_pieces(memory, checked, TypeId(ty), limits, pieces)
+) -> Result<(Value<'r, A>, u64), StreamFault> {
+    let mut decoder = Decoder::new(memory, checked, TypeId(ty), limits)?;
+    'pieces: for piece in pieces {
+        if let Progress::Done { .. } = decoder.feed(piece)? {
+            break 'pieces;
+        }
+    }
+    let taken = decoder.taken();
+    Ok((decoder.finish()?, taken))
 }
 
 /// Returns the JSON of a value.

@@ -2,7 +2,7 @@
 
 use crate::decoder_memory::{NESTED_BYTES, REFUSED};
 use crate::expect::same;
-use decode_core::{OpenFault, PiecesFault, StreamFault};
+use decode_core::{OpenFault, StreamFault};
 use decoder_calls::calls::{all_of, front_of};
 use linked_list_allocator::LocalHeap;
 use scale_core::Source;
@@ -44,7 +44,7 @@ fn pieces_without_a_decoder_are_refused(rt: HostRuntime) -> Result<(), Fail> {
         same(
             &rt,
             reported,
-            Some(PiecesFault::Open(OpenFault::OutOfMemory)),
+            Some(StreamFault::Open(OpenFault::OutOfMemory)),
         );
     }
     Ok(())
@@ -86,7 +86,7 @@ fn refusal_of_pieces<A: Allocator + Clone>(
     alloc: Global,
     checked: &Checked,
     memory: A,
-) -> Result<Option<PiecesFault>, Fail> {
+) -> Result<Option<StreamFault>, Fail> {
     let (front, rest) = NESTED_BYTES.split_at(8);
     match front_of(memory, checked, 5, AMPLE, &[front, rest]) {
         Ok((value, taken)) => {
@@ -126,7 +126,7 @@ fn check_pieces(
     let memory = Rationed::new(heap, request);
     let reported = refusal_of_pieces(rt, alloc, checked, &memory)?;
     let refused = memory.is_past_refusal();
-    let wanted = refused.then_some(PiecesFault::Decode(REFUSED));
+    let wanted = refused.then_some(StreamFault::Decode(REFUSED));
     same(rt, (request, reported), (request, wanted));
     same(rt, (request, heap.used()), (request, 0));
     Ok(refused)

@@ -1,7 +1,7 @@
 //! The input of every call: a registry of twelve types, and a value of its ninth type.
 
-use decode_core::decode_pieces;
 use registry_core::{Registry, TypeId, read_registry};
+use scale_calls::read_value;
 use std::alloc::Global;
 use value_core::{Limits, Value};
 use widths_core::Checked;
@@ -74,6 +74,5 @@ pub(crate) fn checked(alloc: Global) -> Option<Checked> {
 
 /// Returns the value, or `None` if an allocation fails.
 pub(crate) fn value(alloc: Global, checked: &Checked) -> Option<Value<'_, Global>> {
-    let (value, _) = decode_pieces(alloc, checked, TYPE, Limits::default_limits(), &[VALUE]).ok()?;
-    Some(value)
+    read_value(alloc, checked, TYPE.0, Limits::default_limits(), VALUE).ok()
 }

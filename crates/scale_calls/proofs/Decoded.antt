@@ -1,25 +1,28 @@
 -- What the decoder's answer says of the value that all the bytes spell.
-use Rattle.std.proofs.Common.{◌≡◌, ◌==◌, ℕ, ◌<◌, ◌≤◌, List, [], ◌++◌, length, Bool, true, false}
+use Rattle.std.proofs.Common.{◌≡◌, ◌==◌, ℕ, ◌<◌, ◌≤◌, List, ◌++◌, length, Bool, true, false}
 use Rattle.std.proofs.Common.{Option, Some, None, option_map, Ok, Err, refl, ap, ◌∙◌, arith, subst}
-use Rattle.std.proofs.Common.{inl, inr, take}
+use Rattle.std.proofs.Common.{inl, inr, sym, take}
 use Rattle.std.specs.Prelude.{if◌then◌else◌, ◌≢◌}
 use Rattle.std.proofs.lemmas.Bool.{cases_lt, eq-eqb, ne_eqb}
-use Rattle.std.proofs.lemmas.List.{append-nil, length-append, length-take}
+use Rattle.std.proofs.lemmas.List.{length-append, length-take}
 use Rattle.types_core.specs.declared.type_info.TypeInfo.{TypeInfo}
 use Rattle.grammar_core.specs.Tree.{Tree}
 use Rattle.node_core.specs.Shown.{Seen}
-use Rattle.decode_core.specs.Decoding.{FinishesDecoder, IsEnded}
+use Rattle.decode_core.specs.Decoding.{AnswersPiece, Decoding, FinishesDecoder, IsEnded}
+use Rattle.decode_core.specs.Decoding.{OpensDecoder}
 use Rattle.outcome_core.specs.Outcome.{Query, Outcome, done, refused, more, too_long, IsOutcome}
-use Rattle.decode_core.specs.Streaming.{Forbids, IsOfQuery, Joins, Trails}
+use Rattle.decode_core.specs.Streaming.{EndsAt, Forbids, IsOfQuery, Trails}
+use Rattle.decode_core.specs.declared.decoder.Progress.{Progress}
+use Rattle.decode_core.specs.declared.decoder.Progress.TheVariants as progress
 use Rattle.decode_core.specs.declared.fault.DecodeFault.{DecodeFault}
 use Rattle.machine_core.specs.declared.reason.DecodeReason.{DecodeReason}
 use Rattle.machine_core.specs.declared.reason.DecodeReason.TheVariants as reason
 use Rattle.decode_core.specs.declared.fault.OpenFault.{OpenFault}
 use Rattle.decode_core.specs.declared.fault.OpenFault.TheVariants as opening
-use Rattle.decode_core.specs.declared.pieces.PiecesFault.{PiecesFault}
-use Rattle.decode_core.specs.declared.pieces.PiecesFault.TheVariants as pieces
+use Rattle.decode_core.proofs.Streaming.{done_ends, no_value}
 use Rattle.outcome_core.proofs.Computed.{outcome_is_computed}
-use Rattle.scale_calls.specs.Refused.{opening_refusal, pieces_refusal, value_refusal_by}
+use Rattle.outcome_core.proofs.Outcomes.{one_outcome}
+use Rattle.scale_calls.specs.Refused.{opening_refusal, value_refusal, value_refusal_by}
 use Rattle.scale_calls.specs.Values.{RefusesValue, value_in, value_of_all}
 
 -- the value that an outcome gives to so many bytes
@@ -95,28 +98,32 @@ by_opening forbidden j b opening.LimitOutOfRange (inl is) = is
 by_opening forbidden j b opening.LimitOutOfRange (inr is) = let bad = is.0 in absurd cc
 by_opening forbidden j b opening.OutOfMemory h = tt
 
--- what one piece is refused for
-pub refused_by : (forbidden : Option OpenFault) (j : Query) (b : List ℕ) (f : PiecesFault) →
-    Joins forbidden j b (Err f) → RefusesValue forbidden j b (pieces_refusal f)
-refused_by forbidden j b (pieces.Open f) h = by_opening forbidden j b f h
-refused_by forbidden j b (pieces.Decode f) h = by_reason f.reason forbidden j b f refl h.0 h.1
+-- what the decoder's fault refuses the bytes for
+pub refused_by : (forbidden : Option OpenFault) (j : Query) (b : List ℕ) (f : DecodeFault) →
+    forbidden ≡ None → FinishesDecoder j b (Err f) →
+    RefusesValue forbidden j b (value_refusal f)
+refused_by forbidden j b f none h = by_reason f.reason forbidden j b f refl none h
 
--- the pieces are one, and nothing follows it
-pub one_piece : (forbidden : Option OpenFault) (j : Query) (b : List ℕ) (f : PiecesFault) →
-    Joins forbidden j (b ++ []) (Err f) → RefusesValue forbidden j b (pieces_refusal f)
-one_piece forbidden j b f h = refused_by forbidden j b f
-    (subst (λ x. Joins forbidden j x (Err f)) (append-nil b) h)
+-- why no decoder is made is why the bytes are refused
+pub unopened : (forbidden : Option OpenFault) (first : Decoding) (j : Query) (b : List ℕ)
+    (f : OpenFault) → OpensDecoder forbidden first (Err f) →
+    RefusesValue forbidden j b (opening_refusal f)
+unopened None first j b f h = by_opening None j b f (inr (h, refl))
+unopened (Some e) first j b f h = by_opening (Some e) j b f (inl (ap Some (sym h)))
 
-abbrev JoinsTo : Option OpenFault → Query → Seen → ℕ → List ℕ → Type 0
-JoinsTo forbidden j v n joined = Joins forbidden j joined (Ok (v, n))
+-- where a decoder that took all the bytes ends, each value on their front ends
+pub ends_taken : (old new : Decoding) (b : List ℕ) (p : Progress) →
+    AnswersPiece old new b (Ok p) → EndsAt new.query b new.taken
+ends_taken old new b progress.More h v n k =
+    no_value v (one_outcome new.query b (done v) more n new.taken k h).0
+ends_taken old new b (progress.Done used) h = done_ends new.query b _ new.taken h.2
 
 -- a value that takes all the bytes is the one that they spell
 pub one_value : (forbidden : Option OpenFault) (j : Query) (b : List ℕ) (v : Seen) (n : ℕ) →
-    n ≡ length b → JoinsTo forbidden j v n (b ++ []) →
+    n ≡ length b → forbidden ≡ None → EndsAt j b n → FinishesDecoder j b (Ok v) →
     (forbidden ≡ None) × (value_in j b ≡ Some v)
-one_value forbidden j b v n all h =
-    let s = subst (λ x. JoinsTo forbidden j v n x) (append-nil b) h in
-    (s.0, spelled j b v n all s.1 s.2)
+one_value forbidden j b v n all none ends h =
+    (none, spelled j b v h.0 (ends v.tree h.0 h.3 ∙ all) (h.1, h.2) h.3)
 
 -- what is at most a number, and is not it, is less
 short : (n len : ℕ) → n ≤ len → (n ≡ len → ⊥) → n < len
@@ -131,11 +138,11 @@ within n limit b front rest is own =
 
 -- a value that does not take all the bytes is followed by others, and all spell no value
 pub one_front : (forbidden : Option OpenFault) (j : Query) (b : List ℕ) (v : Seen) (n : ℕ) →
-    (n ≡ length b → ⊥) → JoinsTo forbidden j v n (b ++ []) →
+    (n ≡ length b → ⊥) → forbidden ≡ None → EndsAt j b n → FinishesDecoder j b (Ok v) →
     (forbidden ≡ None) × (value_in j b ≡ None) × Trails j n b
-one_front forbidden j b v n some h =
-    let s = subst (λ x. JoinsTo forbidden j v n x) (append-nil b) h in (
-      s.0,
-      not_all j b v.tree n some s.2,
-      (v.tree, s.2, short n (length b) (within n j.bytes b s.2.0 s.2.1 s.2.2 s.2.5) some),
+one_front forbidden j b v n some none ends h =
+    let out = subst (λ m. IsOutcome j b (done v.tree) m) (ends v.tree h.0 h.3) h.3 in (
+      none,
+      not_all j b v.tree n some out,
+      (v.tree, out, short n (length b) (within n j.bytes b out.0 out.1 out.2 out.5) some),
     )

@@ -9,8 +9,6 @@ use Rattle.machine_core.specs.declared.reason.DecodeReason.{DecodeReason}
 use Rattle.machine_core.specs.declared.reason.DecodeReason.TheVariants as reason
 use Rattle.decode_core.specs.declared.fault.OpenFault.{OpenFault}
 use Rattle.decode_core.specs.declared.fault.OpenFault.TheVariants as opening
-use Rattle.decode_core.specs.declared.pieces.PiecesFault.{PiecesFault}
-use Rattle.decode_core.specs.declared.pieces.PiecesFault.TheVariants as pieces
 use Rattle.scale_calls.specs.declared.refusal.RegistryRefusal.{RegistryRefusal}
 use Rattle.scale_calls.specs.declared.refusal.RegistryRefusal.TheVariants as types
 use Rattle.scale_calls.specs.declared.refusal.ValueRefusal.{ValueRefusal}
@@ -44,8 +42,3 @@ abbrev pub opening_refusal : OpenFault → ValueRefusal
 opening_refusal opening.UnknownType = value.UnknownType
 opening_refusal opening.LimitOutOfRange = value.LimitOutOfRange
 opening_refusal opening.OutOfMemory = value.Memory
-
--- why a complete list of pieces gives no value
-abbrev pub pieces_refusal : PiecesFault → ValueRefusal
-pieces_refusal (pieces.Open f) = opening_refusal f
-pieces_refusal (pieces.Decode f) = value_refusal f

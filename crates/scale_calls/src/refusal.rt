@@ -1,11 +1,11 @@
 //! Why bytes hold no registry, or no value of one of its types.
 
 ghost use Rattle.std.specs.Prelude.{◌≡◌};
-ghost use Rattle.scale_calls.specs.Refused.{check_refusal, opening_refusal, pieces_refusal};
+ghost use Rattle.scale_calls.specs.Refused.{check_refusal, opening_refusal};
 ghost use Rattle.scale_calls.specs.Refused.{registry_refusal, value_refusal};
 ghost use Rattle.scale_calls.specs.declared.refusal.ValueRefusal.TheVariants.{Memory};
 
-use decode_core::{DecodeFault, DecodeReason, OpenFault, PiecesFault};
+use decode_core::{DecodeFault, DecodeReason, OpenFault};
 use registry_core::{RegistryFault, RegistryReason};
 use std::alloc::AllocError;
 use thiserror::Error;
@@ -91,17 +91,6 @@ impl From<DecodeFault> for ValueRefusal {
         match fault.reason {
             DecodeReason::OutOfMemory => ValueRefusal::Memory,
             _ => ValueRefusal::Fault(fault),
-        }
-    }
-}
-
-impl From<PiecesFault> for ValueRefusal {
-    ghost from_gives = { λ f r. r ≡ pieces_refusal f };
-
-    fn from(fault: PiecesFault) -> ValueRefusal {
-        match fault {
-            PiecesFault::Open(fault) => ValueRefusal::from(fault),
-            PiecesFault::Decode(fault) => ValueRefusal::from(fault),
         }
     }
 }

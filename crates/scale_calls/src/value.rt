@@ -6,7 +6,7 @@ ghost use Rattle.decode_core.specs.Streaming.{query_of};
 ghost use Rattle.scale_calls.specs.Values.{ReadsValue, ShowsValue};
 
 use crate::refusal::ValueRefusal;
-use decode_core::decode_pieces;
+use decode_core::Decoder;
 use json_core::json_text;
 use registry_core::TypeId;
 use std::alloc::{Allocator, Global};
@@ -35,15 +35,14 @@ pub fn read_value<'r, A: Allocator + Clone>(
     ensures { ReadsValue (opening_fault checked.now.types id limits)
         (query_of checked.now.types id limits) bytes.now result }
 {
-    match decode_pieces(alloc, checked, TypeId(id), limits, &[bytes]) {
-        Ok((value, taken)) => {
-            if taken == bytes.len() as u64 {
-                Ok(value)
-            } else {
-                Err(ValueRefusal::TrailingBytes(taken))
-            }
-        }
-        Err(fault) => Err(ValueRefusal::from(fault)),
+    let mut decoder = Decoder::new(alloc, checked, TypeId(id), limits)?;
+    decoder.feed(bytes)?;
+    let taken = decoder.taken();
+    let value = decoder.finish()?;
+    if taken == bytes.len() as u64 {
+        Ok(value)
+    } else {
+        Err(ValueRefusal::TrailingBytes(taken))
     }
 }
 
