@@ -1,7 +1,9 @@
 //! A value in progress: it takes bytes turn by turn, and nodes that lie whole in a piece at once.
 #![tactic(auto)]
 
+mod fast_tier;
 mod feeding;
+mod general_turn;
 mod node;
 mod partial;
 mod reason;

@@ -1,28 +1,20 @@
-//! A value in progress, and one turn of it.
+//! A value in progress.
 
-ghost use Rattle.std.specs.Prelude.{ℕ, List, true, ◌≡◌, ◌<◌, ◌≤◌, ◌+◌, ◌++◌, [], length};
-ghost use Rattle.std.specs.Prelude.{false, None, IfSome, IsSome, Ok};
-ghost use Rattle.machine_core.specs.Running.{IsCarry, IsFresh, IsRunNext};
-ghost use Rattle.value_core.specs.Walked.{next_of};
-ghost use Rattle.value_core.specs.Built.{finished, pieces_bytes};
-ghost use Rattle.value_core.specs.Refusals.{Lacks, is_complete};
-ghost use Rattle.grammar_core.specs.Runs.{run_form};
-ghost use Rattle.form_core.specs.Needs.{AreOwn, HasBytes, IsBare, IsNeeded};
-ghost use Rattle.form_core.specs.NodeForms.{form_of_bytes};
-ghost use Rattle.machine_core.specs.NodeAdds.{TakesNode};
-ghost use Rattle.machine_core.specs.Turned.{Awaits, EndReports, EndsTurns};
-ghost use Rattle.machine_core.specs.Turned.{IsSound, KeepsTurns, PieceReports, StepReports};
-ghost use Rattle.machine_core.specs.Turned.{WantsBytes, node_turned};
+ghost use Rattle.std.specs.Prelude.{ℕ, List, true, ◌≡◌, ◌<◌, []};
+ghost use Rattle.std.specs.Prelude.{false, None, IfSome};
+ghost use Rattle.machine_core.specs.Running.{IsFresh};
+ghost use Rattle.value_core.specs.Built.{finished};
+ghost use Rattle.value_core.specs.Refusals.{is_complete};
+ghost use Rattle.machine_core.specs.Turned.{Awaits, EndsTurns};
+ghost use Rattle.machine_core.specs.Turned.{IsSound};
+ghost use Rattle.machine_core.specs.Turned.{WantsBytes};
 
-use crate::node::{NodeFault, add_arm, add_plain, add_sequence};
-use crate::reason::DecodeReason;
-use crate::turned::{Stopped, Tried};
+use crate::turned::Stopped;
 use count_core::Count;
-use form_core::{BytesForm, Carry, bytes_form, need, read_length};
-use scale_core::compact_len;
+use form_core::{Carry, bytes_form};
 use std::alloc::Allocator;
 use std::marker::Model;
-use value_core::{Form, Next, RawBuilder, RunKind, Value};
+use value_core::{Form, Next, RawBuilder, Value};
 
 /// A value in progress: what is built of it, and the bytes that do not complete the next node. The
 /// bytes of an open run are in the builder.
@@ -40,66 +32,6 @@ impl<'r, A: Allocator> Model for Partial<'r, A> {
     ghost view = { λ s. record { built = s.builder; carry = s.carry } };
 
     ghost invariant = { λ s. IsRunning s.builder s.carry };
-}
-
-/// Opens the text or the run of bytes that is next by the bytes of its length.
-fn take_length<A: Allocator>(
-    builder: &mut RawBuilder<'_, A>,
-    kind: RunKind,
-    own: &[u8],
-) -> Result<(), NodeFault>
-    requires counted { HasBytes (run_form kind) }
-    requires next { next_of builder.old.walk ≡ Next.Wants (run_form kind) }
-    requires closed { builder.old.run ≡ None }
-    requires whole { AreOwn (run_form kind) own.now }
-    ensures { TakesNode (run_form kind) builder.old builder.new own.now result }
-{
-    let len = read_length(own)?;
-    builder.open_run(kind, len);
-    Ok(())
-}
-
-/// Adds the next node by its own bytes, or opens the run that is next by those of its length.
-#[inline(always)]
-pub(crate) fn take_node<A: Allocator>(
-    builder: &mut RawBuilder<'_, A>,
-    form: BytesForm,
-    own: &[u8],
-) -> Result<(), NodeFault>
-    requires next { next_of builder.old.walk ≡ Next.Wants (form_of_bytes form) }
-    requires closed { builder.old.run ≡ None }
-    requires whole { AreOwn (form_of_bytes form) own.now }
-    ensures { TakesNode (form_of_bytes form) builder.old builder.new own.now result }
-{
-    match form {
-        BytesForm::Plain(plain) => add_plain(builder, plain, own),
-        BytesForm::Arm => add_arm(builder, own),
-        BytesForm::Sequence => add_sequence(builder, own),
-        BytesForm::Text => take_length(builder, RunKind::Text, own),
-        BytesForm::Bytes => take_length(builder, RunKind::Bytes, own),
-    }
-}
-
-/// Returns what a turn did that took the node's own bytes, the last `count` of them the piece's.
-#[inline(always)]
-fn node_turn(
-    taken: Result<(), NodeFault>,
-    held: usize,
-    count: usize,
-    len: usize,
-) -> Result<usize, Stopped>
-    ensures { result ≡ node_turned taken held count len }
-{
-    match taken {
-        Ok(()) => Ok(count),
-        Err(NodeFault::Refused(reason, at)) => Err(Stopped::Refused {
-            held,
-            reason,
-            at,
-            len,
-        }),
-        Err(NodeFault::OutOfMemory) => Err(Stopped::OutOfMemory),
-    }
 }
 
 impl<'r, A: Allocator> Partial<'r, A> {
@@ -134,195 +66,6 @@ impl<'r, A: Allocator> Partial<'r, A> {
         ensures { result.so_far ≡ self.entry.built.turns }
     {
         self.builder.into_turns()
-    }
-
-    /// Takes a turn on a node without bytes of its own.
-    fn bare_turn(&mut self, form: Form) -> Result<usize, Stopped>
-        requires bare { IsBare form }
-        requires next { next_of self.old.built.walk ≡ Next.Wants form }
-        requires closed { self.old.built.run ≡ None }
-        ensures reports { (piece : List ℕ) → StepReports self.old self.new piece result }
-        ensures kept { KeepsTurns self.old self.new result }
-    {
-        match self.whole_bare(form) {
-            Tried::Added(count) => Ok(count),
-            Tried::Untouched | Tried::OutOfMemory => Err(Stopped::OutOfMemory),
-        }
-    }
-
-    /// Takes a turn on a node of `len` own bytes: those that are missing, or as many as are there.
-    #[inline(always)]
-    fn cut_turn(&mut self, form: BytesForm, len: usize, piece: &[u8]) -> Result<usize, Stopped>
-        requires next { next_of self.old.built.walk ≡ Next.Wants (form_of_bytes form) }
-        requires closed { self.old.built.run ≡ None }
-        requires piece { 1 ≤ length piece.now }
-        requires len { IsNeeded (form_of_bytes form) len (self.old.carry ++ piece.now) }
-        requires short { length self.old.carry < len }
-        requires bound { len ≤ 32 }
-        ensures reports { StepReports self.old self.new piece.now result }
-        ensures kept { KeepsTurns self.old self.new result }
-    {
-        let held = self.carry.as_slice().len();
-        let count = self.carry.fill(len, piece);
-        if held + count < len {
-            return Ok(count);
-        }
-        let own = self.carry.as_slice();
-        let taken = take_node(&mut self.builder, form, own);
-        self.carry.clear();
-        node_turn(taken, held, count, len)
-    }
-
-    /// Takes a turn on a node with bytes of its own. No run is open.
-    #[inline(always)]
-    fn own_turn(&mut self, form: BytesForm, piece: &[u8]) -> Result<usize, Stopped>
-        requires next { next_of self.old.built.walk ≡ Next.Wants (form_of_bytes form) }
-        requires closed { self.old.built.run ≡ None }
-        requires carried { IsCarry self.old.built self.old.carry }
-        ensures reports { StepReports self.old self.new piece.now result }
-        ensures kept { KeepsTurns self.old self.new result }
-    {
-        if piece.is_empty() {
-            return Err(Stopped::Wants);
-        }
-        let len = need(form, self.carry.first_with(piece));
-        self.cut_turn(form, len, piece)
-    }
-
-    /// Takes a turn on an array of u8 without bytes so far: adds it if it is complete, or opens it.
-    fn byte_array_turn(&mut self, len: u32, piece: &[u8]) -> Result<usize, Stopped>
-        requires next { next_of self.old.built.walk ≡ Next.Wants (Form.ByteArray len) }
-        requires closed { self.old.built.run ≡ None }
-        requires carried { IsCarry self.old.built self.old.carry }
-        ensures reports { StepReports self.old self.new piece.now result }
-        ensures kept { KeepsTurns self.old self.new result }
-    {
-        match self.whole_byte_array(len, piece) {
-            Tried::Added(count) => return Ok(count),
-            Tried::OutOfMemory => return Err(Stopped::OutOfMemory),
-            Tried::Untouched => {}
-        }
-        if piece.is_empty() {
-            return Err(Stopped::Wants);
-        }
-        self.builder.open_run(RunKind::ByteArray(len), len);
-        self.run_piece(len as usize, piece)
-    }
-
-    /// Takes a turn on the open run: appends the bytes that are there, and ends it if none is
-    /// missing.
-    #[inline(never)]
-    fn run_turn(&mut self, piece: &[u8]) -> Result<usize, Stopped>
-        requires next { IsRunNext self.old.built self.old.carry self.old.built.run }
-        requires open { IsSome self.old.built.run }
-        ensures reports { StepReports self.old self.new piece.now result }
-        ensures kept { KeepsTurns self.old self.new result }
-    {
-        let missing = self.builder.run_missing();
-        if missing == 0 {
-            return self.run_end(0);
-        }
-        if piece.is_empty() {
-            return Err(Stopped::Wants);
-        }
-        if piece.len() < missing {
-            return self.run_piece(missing, piece);
-        }
-        self.run_rest(&piece[..missing])
-    }
-
-    /// Appends the bytes that the open run lacks, and ends it.
-    fn run_rest(&mut self, rest: &[u8]) -> Result<usize, Stopped>
-        requires next { IsRunNext self.old.built self.old.carry self.old.built.run }
-        requires lacks { Lacks self.old.built.run (length rest.now) }
-        requires some { 1 ≤ length rest.now }
-        ensures reports { (later : List ℕ) →
-            StepReports self.old self.new (rest.now ++ later) result }
-        ensures kept { KeepsTurns self.old self.new result }
-    {
-        let Ok(()) = self.builder.extend_run(rest) else {
-            return Err(Stopped::OutOfMemory);
-        };
-        self.run_end(rest.len())
-    }
-
-    /// Moves up to `missing` bytes of the piece, those the open run lacks, to it.
-    fn run_piece(&mut self, missing: usize, piece: &[u8]) -> Result<usize, Stopped>
-        requires next { IsRunNext self.old.built self.old.carry self.old.built.run }
-        requires lacks { Lacks self.old.built.run missing }
-        requires some { 1 ≤ missing }
-        requires there { 1 ≤ length piece.now }
-        ensures reports { PieceReports self.old self.new piece.now result }
-        ensures kept { KeepsTurns self.old self.new result }
-    {
-        let count = piece.len().min(missing);
-        let Ok(()) = self.builder.extend_run(&piece[..count]) else {
-            return Err(Stopped::OutOfMemory);
-        };
-        Ok(count)
-    }
-
-    /// Ends the open run, which is complete; its last `count` bytes came in this turn.
-    fn run_end(&mut self, count: usize) -> Result<usize, Stopped>
-        requires next { IsRunNext self.old.built self.old.carry self.old.built.run }
-        requires whole { Lacks self.old.built.run 0 }
-        requires last { count ≤ length (pieces_bytes self.old.built.run) }
-        ensures reports { EndReports self.old self.new count result }
-        ensures kept { KeepsTurns self.old self.new result }
-    {
-        if let Some(valid) = self.builder.bad_text() {
-            let run_len = self.builder.run_len();
-            let before = compact_len(u128::from(run_len));
-            let len = before + run_len as usize;
-            return Err(Stopped::Refused {
-                held: len - count,
-                reason: DecodeReason::BadUtf8,
-                at: before as u64 + valid,
-                len,
-            });
-        }
-        let Ok(()) = self.builder.close_run() else {
-            return Err(Stopped::OutOfMemory);
-        };
-        Ok(count)
-    }
-
-    /// Takes a turn on a node of this form, which is next. No run is open.
-    fn form_turn(&mut self, form: Form, piece: &[u8]) -> Result<usize, Stopped>
-        requires next { next_of self.old.built.walk ≡ Next.Wants form }
-        requires closed { self.old.built.run ≡ None }
-        requires carried { IsCarry self.old.built self.old.carry }
-        ensures reports { StepReports self.old self.new piece.now result }
-        ensures kept { KeepsTurns self.old self.new result }
-    {
-        if let Some(own) = bytes_form(form) {
-            return self.own_turn(own, piece);
-        }
-        match form {
-            Form::ByteArray(len) => self.byte_array_turn(len, piece),
-            bare => self.bare_turn(bare),
-        }
-    }
-
-    /// Takes one turn: bytes of the piece, a node, or a stop. Returns how many bytes it took.
-    #[inline(never)]
-    pub(crate) fn turn(&mut self, piece: &[u8]) -> Result<usize, Stopped>
-        ensures reports { StepReports self.old self.new piece.now result }
-        ensures kept { KeepsTurns self.old self.new result }
-        ensures sound { IsSound self.old }
-        ensures whole { is_complete self.old.built ≡ true → result ≡ Err Stopped.Finished }
-    {
-        match self.builder.walk().next() {
-            Next::Finished => Err(Stopped::Finished),
-            Next::Stop(reason) => Err(Stopped::Refused {
-                held: 0,
-                reason: reason.into(),
-                at: 0,
-                len: 0,
-            }),
-            Next::Wants(_) if self.builder.is_run_open() => self.run_turn(piece),
-            Next::Wants(form) => self.form_turn(form, piece),
-        }
     }
 
     /// Returns the form of the next node, if there can be one. No run is open.

@@ -2,7 +2,7 @@ use Rattle.std.proofs.Common.{inr, refl}
 use Rattle.std.proofs.lemmas.Result.{err_from_is_err_and}
 use Rattle.machine_core.proofs.steps.FormSplits.{length_compact}
 use Rattle.machine_core.proofs.steps.LengthAdding.{length_read, length_refused}
-use Rattle.machine_core.proofs.partial.take_length.Goals as goal
+use Rattle.machine_core.proofs.general_turn.take_length.Goals as goal
 
 pub returns-in_err-len : goal.returns-in_err-len
 returns-in_err-len g c =
