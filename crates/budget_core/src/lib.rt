@@ -1,4 +1,4 @@
-//! An allocator that bounds how many bytes are allocated at once.
+//! For crates: an allocator that bounds how many bytes are allocated at once.
 #![tactic(auto)]
 
 mod budget;

@@ -1,5 +1,5 @@
-//! The command line of `scaleview`: the job that its words name, and what is reported if no job
-//! begins.
+//! For crates: the command line of `scaleview`, the job that its words name, and what is reported
+//! if no job begins.
 #![tactic(auto)]
 
 mod commands;

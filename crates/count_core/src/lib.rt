@@ -1,4 +1,4 @@
-//! Counts and logs for contracts, which take no bytes at run time.
+//! For crates: counts and logs for contracts, which take no bytes at run time.
 #![tactic(auto)]
 
 mod counting;

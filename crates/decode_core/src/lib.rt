@@ -1,5 +1,5 @@
-//! A streaming decoder: turns bytes in any pieces, or all bytes of a reader, into a value of a
-//! type, or into an error with its reason and place.
+//! For users: a streaming decoder, which turns bytes in any pieces, or all bytes of a reader, into
+//! a value of a type, or into an error with its reason and place.
 #![tactic(auto)]
 
 mod decoder;

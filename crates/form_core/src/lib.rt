@@ -1,5 +1,5 @@
-//! A node's own bytes: how many there are, what they spell, how those of a cut node are kept, and
-//! complete nodes without parts at the start of a piece.
+//! For crates: a node's own bytes, how many there are, what they spell, how those of a cut node are
+//! kept, and complete nodes without parts at the start of a piece.
 #![tactic(auto)]
 
 mod carry;

@@ -1,4 +1,4 @@
-//! The grammar of values, its laws, and what a value of a type begins with.
+//! For crates: the grammar of values, its laws, and what a value of a type begins with.
 #![tactic(auto)]
 
 mod form;

@@ -1,5 +1,5 @@
-//! The types of a registry as a graph: the references of each type, and the lists of references to
-//! each type.
+//! For crates: the types of a registry as a graph, the references of each type, and the lists of
+//! references to each type.
 //!
 //! A graph logs each look at its registry. A look is one access to a definition or to a reference.
 #![tactic(auto)]

@@ -1,4 +1,4 @@
-//! Vectors whose capacity is bounded by what they hold and grows in proportion to it.
+//! For crates: vectors whose capacity is bounded by what they hold and grows in proportion to it.
 #![tactic(auto)]
 
 mod grow_vec;

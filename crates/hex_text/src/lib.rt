@@ -1,4 +1,4 @@
-//! Bytes as a text of hexadecimal digits.
+//! For crates: bytes as a text of hexadecimal digits.
 #![tactic(auto)]
 
 mod fault;

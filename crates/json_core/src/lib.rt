@@ -1,4 +1,5 @@
-//! A value as JSON: as a tree of `serde_json`, as text, and as text in a sink or in memory.
+//! For users: a value as JSON, as a tree of `serde_json`, as text, and as text in a sink or in
+//! memory.
 #![tactic(auto)]
 
 mod defined;

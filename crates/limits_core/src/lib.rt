@@ -1,4 +1,4 @@
-//! The limits on a value of untrusted bytes.
+//! For crates: the limits on a value of untrusted bytes. value_core offers them to users.
 #![tactic(auto)]
 
 mod limits;

@@ -1,4 +1,5 @@
-//! A value in progress: it takes bytes turn by turn, and nodes that lie whole in a piece at once.
+//! For crates: a value in progress, which takes bytes turn by turn, and nodes that lie complete in
+//! a piece at once.
 #![tactic(auto)]
 
 mod fast_tier;

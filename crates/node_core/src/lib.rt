@@ -1,4 +1,5 @@
-//! The nodes of a value: how they are kept, read and written.
+//! For crates: the nodes of a value, how they are kept, read and written. value_core offers them to
+//! users.
 #![tactic(auto)]
 
 mod children;

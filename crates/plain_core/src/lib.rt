@@ -1,4 +1,4 @@
-//! Tests whether a text stands in JSON as it is.
+//! For crates: whether a text stands in JSON as it is.
 #![tactic(auto)]
 
 mod plain;

@@ -1,4 +1,4 @@
-//! Values as records: numbers in the order of the nodes, beside a pool of bytes.
+//! For crates: values as records, numbers in the order of the nodes beside a pool of bytes.
 #![tactic(auto)]
 
 pub mod laws;

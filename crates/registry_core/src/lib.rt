@@ -1,4 +1,4 @@
-//! Type registries of scale-info in their portable form.
+//! For users: type registries of scale-info in their portable form.
 //!
 //! A registry is read from bytes, with the first error and its place, and written in its one
 //! encoding.

@@ -1,5 +1,5 @@
-//! What callers do with complete bytes: open a registry, show and describe its types, and turn a
-//! value into JSON. It knows no files, processes or pointers.
+//! For crates: what callers do with complete bytes, as to open a registry, to show and describe its
+//! types, and to turn a value into JSON. It knows no files, processes or pointers.
 #![tactic(auto)]
 
 mod describing;

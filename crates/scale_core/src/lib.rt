@@ -1,5 +1,5 @@
-//! The elements of the SCALE codec: fixed-width and compact integers, booleans, characters and
-//! texts.
+//! For users: the elements of the SCALE codec: fixed-width and compact integers, booleans,
+//! characters and texts.
 //!
 //! Each value has one encoding, and no other is accepted. [`Source`] and [`Sink`] wrap a reader and
 //! a writer, and report whether a call on them failed.

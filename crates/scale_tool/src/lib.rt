@@ -1,5 +1,5 @@
-//! The command `scaleview` without files and process: its engine over readers and writers, and its
-//! command line.
+//! For users: the command `scaleview` without files and process, its engine over readers and
+//! writers, and its command line.
 #![tactic(auto)]
 
 mod engine;

@@ -1,4 +1,4 @@
-//! The library for C: registries and sessions behind handles, and answers as numbers.
+//! For users: the library for C, registries and sessions behind handles, and answers as numbers.
 //! `clients/c/scaleview.h` documents the calls.
 #![tactic(auto)]
 

@@ -1,4 +1,4 @@
-//! A writer of JSON text, token by token.
+//! For crates: a writer of JSON text, token by token.
 #![tactic(auto)]
 
 mod digits;

@@ -1,4 +1,5 @@
-//! The types of a registry (scale-info's portable form), as they are kept.
+//! For crates: the types of a registry (scale-info's portable form), as they are kept.
+//! registry_core offers them to users.
 #![tactic(auto)]
 
 mod definition;

@@ -1,4 +1,4 @@
-//! Values of the types of a registry: built node by node, looked at, and written.
+//! For users: values of the types of a registry, built node by node, looked at, and written.
 #![tactic(auto)]
 
 mod adding_calls;

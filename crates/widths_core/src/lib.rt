@@ -1,5 +1,5 @@
-//! The analysis of a registry: that its references are known, which types have values, which take
-//! no bytes, what a compact integer stands for, and how many parts a value has at most.
+//! For users: the analysis of a registry, that its references are known, which types have values,
+//! which take no bytes, what a compact integer stands for, and how many parts a value has at most.
 #![tactic(auto)]
 
 mod analysis;

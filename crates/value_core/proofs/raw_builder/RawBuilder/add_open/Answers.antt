@@ -73,8 +73,11 @@ invariant_of-self-2 g c =
       rw c.close_complete.ensures.walk (settled_again c.enter.new.self),
       settled_paid _ _ _ _ _ _ c.close_complete.ensures.settles c.close_complete.ensures.walk
           c.close_complete.ensures.turns
-          (rw (c.in_ok-enter.ensures.ok, c.push_reserved.ensures.items,
-          c.room_for_node.ensures.nodes)
+          (rw (
+            c.in_ok-enter.ensures.ok,
+            c.push_reserved.ensures.items,
+            c.room_for_node.ensures.nodes,
+          )
           (open_paid c.self.inside.walk c.self.inside.nodes.list.items n
           (length c.self.inside.nodes.list.items) c.self.inside.turns.so_far
           (left_of c.self.inside.walk.types c.args.left) c.self.invariant.3)),
