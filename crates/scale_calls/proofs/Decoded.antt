@@ -1,7 +1,7 @@
 -- What the decoder's answer says of the value that all the bytes spell.
 use Rattle.std.proofs.Common.{◌≡◌, ◌==◌, ℕ, ◌<◌, ◌≤◌, List, ◌++◌, length, Bool, true, false}
 use Rattle.std.proofs.Common.{Option, Some, None, option_map, Ok, Err, refl, ap, ◌∙◌, arith, subst}
-use Rattle.std.proofs.Common.{inl, inr, sym, take}
+use Rattle.std.proofs.Common.{inl, inr, take}
 use Rattle.std.specs.Prelude.{if◌then◌else◌, ◌≢◌}
 use Rattle.std.proofs.lemmas.Bool.{cases_lt, eq-eqb, ne_eqb}
 use Rattle.std.proofs.lemmas.List.{length-append, length-take}
@@ -9,7 +9,6 @@ use Rattle.types_core.specs.declared.type_info.TypeInfo.{TypeInfo}
 use Rattle.grammar_core.specs.Tree.{Tree}
 use Rattle.node_core.specs.Shown.{Seen}
 use Rattle.decode_core.specs.Decoding.{AnswersPiece, Decoding, FinishesDecoder, IsEnded}
-use Rattle.decode_core.specs.Decoding.{OpensDecoder}
 use Rattle.outcome_core.specs.Outcome.{Query, Outcome, done, refused, more, too_long, IsOutcome}
 use Rattle.decode_core.specs.Streaming.{EndsAt, Forbids, IsOfQuery, Trails}
 use Rattle.decode_core.specs.declared.decoder.Progress.{Progress}
@@ -104,18 +103,11 @@ pub refused_by : (forbidden : Option OpenFault) (j : Query) (b : List ℕ) (f : 
     RefusesValue forbidden j b (value_refusal f)
 refused_by forbidden j b f none h = by_reason f.reason forbidden j b f refl none h
 
--- why no decoder is made is why the bytes are refused
-pub unopened : (forbidden : Option OpenFault) (first : Decoding) (j : Query) (b : List ℕ)
-    (f : OpenFault) → OpensDecoder forbidden first (Err f) →
-    RefusesValue forbidden j b (opening_refusal f)
-unopened None first j b f h = by_opening None j b f (inr (h, refl))
-unopened (Some e) first j b f h = by_opening (Some e) j b f (inl (ap Some (sym h)))
-
 -- where a decoder that took all the bytes ends, each value on their front ends
 pub ends_taken : (old new : Decoding) (b : List ℕ) (p : Progress) →
     AnswersPiece old new b (Ok p) → EndsAt new.query b new.taken
-ends_taken old new b progress.More h v n k =
-    no_value v (one_outcome new.query b (done v) more n new.taken k h).0
+ends_taken old new b progress.More h =
+    λ v n k. no_value v (one_outcome new.query b (done v) more n new.taken k h).0
 ends_taken old new b (progress.Done used) h = done_ends new.query b _ new.taken h.2
 
 -- a value that takes all the bytes is the one that they spell
