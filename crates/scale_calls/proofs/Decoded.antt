@@ -89,7 +89,7 @@ by_reason _ forbidden j b f is none h =
     reported_fault forbidden j b f none (λ e. let bad = is ∙ e in cc) h
 
 -- what forbids a decoder is why the bytes are refused
-by_opening : (forbidden : Option OpenFault) (j : Query) (b : List ℕ) (f : OpenFault) →
+pub by_opening : (forbidden : Option OpenFault) (j : Query) (b : List ℕ) (f : OpenFault) →
     Forbids forbidden f → RefusesValue forbidden j b (opening_refusal f)
 by_opening forbidden j b opening.UnknownType (inl is) = is
 by_opening forbidden j b opening.UnknownType (inr is) = let bad = is.0 in absurd cc

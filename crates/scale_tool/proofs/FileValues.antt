@@ -10,14 +10,13 @@ use Rattle.outcome_core.specs.Outcome.{Query}
 use Rattle.decode_core.specs.Decoding.{opening_fault}
 use Rattle.decode_core.specs.Streaming.{StopsOpen, Streams, query_of}
 use Rattle.decode_core.specs.declared.fault.OpenFault.{OpenFault}
-use Rattle.decode_core.specs.declared.pieces.PiecesFault.TheVariants as pieces
 use Rattle.decode_core.specs.declared.stream.StreamFault.{StreamFault}
 use Rattle.decode_core.specs.declared.stream.StreamFault.TheVariants as stream
 use Rattle.scale_calls.specs.Refused.{opening_refusal, value_refusal}
 use Rattle.scale_calls.specs.Values.{RefusesValue, value_in}
 use Rattle.scale_calls.specs.declared.refusal.ValueRefusal.{ValueRefusal}
 use Rattle.scale_calls.specs.declared.refusal.ValueRefusal.TheVariants as call
-use Rattle.scale_calls.proofs.Decoded.{not_all, refused_by, spelled}
+use Rattle.scale_calls.proofs.Decoded.{by_opening, not_all, refused_by, spelled}
 use Rattle.hex_text.specs.HexText.{hex_bytes}
 use Rattle.scale_tool.specs.Refused.{refusal_of_stream, refusal_of_value, status_of}
 use Rattle.scale_tool.specs.Values.{ReportsFile, StopsFile, file_value, reported, value_bytes}
@@ -96,9 +95,9 @@ stream_refuses : (fails : List ℕ → Type 0) (left : Option (List ℕ)) (hex :
     (forbidden : Option OpenFault) (f : StreamFault) (b : List ℕ) → hex ≡ false →
     Streams forbidden j fails b left (Err f) → Refuses hex j forbidden (read_refusal f) b
 stream_refuses fails left hex j forbidden (stream.Open f) b raw h =
-    (b, rw raw refl, refused_by forbidden j b (pieces.Open f) h)
+    (b, rw raw refl, by_opening forbidden j b f h)
 stream_refuses fails left hex j forbidden (stream.Decode f) b raw h =
-    (b, rw raw refl, refused_by forbidden j b (pieces.Decode f) h)
+    (b, rw raw refl, refused_by forbidden j b f h.0 h.1)
 stream_refuses fails left hex j forbidden (stream.TrailingBytes at) b raw h = (
   b,
   rw raw refl,
