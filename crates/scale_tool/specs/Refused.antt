@@ -1,5 +1,5 @@
 -- Why each part of a job is rejected, as the refusal of the job, with its exit status and line.
-use Rattle.std.specs.Prelude.{◌≡◌, ℕ, List, codes}
+use Rattle.std.specs.Prelude.{◌≡◌, ℕ}
 use Rattle.decode_core.specs.declared.stream.StreamFault.{StreamFault}
 use Rattle.decode_core.specs.declared.stream.StreamFault.TheVariants as stream
 use Rattle.scale_calls.specs.Refused.{opening_refusal, value_refusal}
