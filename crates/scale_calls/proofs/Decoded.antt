@@ -1,14 +1,15 @@
 -- What the decoder's answer says of the value that all the bytes spell.
 use Rattle.std.proofs.Common.{◌≡◌, ◌==◌, ℕ, ◌<◌, ◌≤◌, List, ◌++◌, length, Bool, true, false}
 use Rattle.std.proofs.Common.{Option, Some, None, option_map, Ok, Err, refl, ap, ◌∙◌, arith, subst}
-use Rattle.std.proofs.Common.{inl, inr, take}
+use Rattle.std.proofs.Common.{inl, inr, sym, take}
 use Rattle.std.specs.Prelude.{if◌then◌else◌, ◌≢◌}
 use Rattle.std.proofs.lemmas.Bool.{cases_lt, eq-eqb, ne_eqb}
 use Rattle.std.proofs.lemmas.List.{length-append, length-take}
 use Rattle.types_core.specs.declared.type_info.TypeInfo.{TypeInfo}
 use Rattle.grammar_core.specs.Tree.{Tree}
 use Rattle.node_core.specs.Shown.{Seen}
-use Rattle.decode_core.specs.Decoding.{AnswersPiece, Decoding, FinishesDecoder, IsEnded}
+use Rattle.decode_core.specs.Decoding.{AnswersPiece, Decoding, FinishesDecoder, IsEnded, Led}
+use Rattle.decode_core.specs.Decoding.{OpensDecoder}
 use Rattle.outcome_core.specs.Outcome.{Query, Outcome, done, refused, more, too_long, IsOutcome}
 use Rattle.decode_core.specs.Streaming.{EndsAt, Forbids, IsOfQuery, Trails}
 use Rattle.decode_core.specs.declared.decoder.Progress.{Progress}
@@ -18,7 +19,7 @@ use Rattle.machine_core.specs.declared.reason.DecodeReason.{DecodeReason}
 use Rattle.machine_core.specs.declared.reason.DecodeReason.TheVariants as reason
 use Rattle.decode_core.specs.declared.fault.OpenFault.{OpenFault}
 use Rattle.decode_core.specs.declared.fault.OpenFault.TheVariants as opening
-use Rattle.decode_core.proofs.Streaming.{done_ends, no_value}
+use Rattle.decode_core.proofs.Streaming.{done_ends, no_value, opened}
 use Rattle.outcome_core.proofs.Computed.{outcome_is_computed}
 use Rattle.outcome_core.proofs.Outcomes.{one_outcome}
 use Rattle.scale_calls.specs.Refused.{opening_refusal, value_refusal, value_refusal_by}
@@ -103,19 +104,59 @@ pub refused_by : (forbidden : Option OpenFault) (j : Query) (b : List ℕ) (f : 
     RefusesValue forbidden j b (value_refusal f)
 refused_by forbidden j b f none h = by_reason f.reason forbidden j b f refl none h
 
--- where a decoder that took all the bytes ends, each value on their front ends
-pub ends_taken : (old new : Decoding) (b : List ℕ) (p : Progress) →
-    AnswersPiece old new b (Ok p) → EndsAt new.query b new.taken
+-- ---- a decoder that was fed with all the bytes
+
+-- it was opened, they have led to it, and a value on their front ends where it has taken them
+pub record WasFed (fault : Option OpenFault) (j : Query) (d : Decoding) (b : List ℕ) : Type 0 where
+  pub none : fault ≡ None
+  pub query : d.query ≡ j
+  pub led : Led d b
+  pub ends : EndsAt d.query b d.taken
+
+-- where a decoder ends that answers a piece, each value on the front of the bytes ends
+ends_taken : (old new : Decoding) (b : List ℕ) (p : Progress) → AnswersPiece old new b (Ok p) →
+    EndsAt new.query b new.taken
 ends_taken old new b progress.More h =
     λ v n k. no_value v (one_outcome new.query b (done v) more n new.taken k h).0
 ends_taken old new b (progress.Done used) h = done_ends new.query b _ new.taken h.2
 
+-- its answer to them says so
+pub was_fed : (fault : Option OpenFault) (first old new : Decoding) (b : List ℕ) (p : Progress) →
+    OpensDecoder fault first (Ok old) → new.query ≡ old.query →
+    AnswersPiece old new b (Ok p) × Led new b → WasFed fault first.query new b
+was_fed fault first old new b p opens same answers = let o = opened fault first old opens in
+    record {
+      none = o.0;
+      query = same ∙ ap (λ (d : Decoding). d.query) o.1;
+      led = answers.1;
+      ends = ends_taken old new b p answers.0;
+    }
+
+-- what its fault in feeding refuses the bytes for
+pub refused_fed : (fault : Option OpenFault) (first old new : Decoding) (b : List ℕ)
+    (f : DecodeFault) → OpensDecoder fault first (Ok old) → new.query ≡ old.query →
+    AnswersPiece old new b (Err f) → RefusesValue fault first.query b (value_refusal f)
+refused_fed fault first old new b f opens same answers =
+    let o = opened fault first old opens in
+    refused_by fault first.query b f o.0
+    (subst (λ (q : Query). FinishesDecoder q b (Err f))
+    (same ∙ ap (λ (d : Decoding). d.query) o.1) (inr (new.taken, answers.1)))
+
+-- what its fault at the end refuses the bytes for
+pub refused_ended : (fault : Option OpenFault) (j : Query) (d : Decoding) (b : List ℕ)
+    (f : DecodeFault) → WasFed fault j d b → FinishesDecoder d.query b (Err f) →
+    RefusesValue fault j b (value_refusal f)
+refused_ended fault j d b f fed h =
+    refused_by fault j b f fed.none
+    (subst (λ (q : Query). FinishesDecoder q b (Err f)) fed.query h)
+
 -- a value that takes all the bytes is the one that they spell
-pub one_value : (forbidden : Option OpenFault) (j : Query) (b : List ℕ) (v : Seen) (n : ℕ) →
-    n ≡ length b → forbidden ≡ None → EndsAt j b n → FinishesDecoder j b (Ok v) →
-    (forbidden ≡ None) × (value_in j b ≡ Some v)
-one_value forbidden j b v n all none ends h =
-    (none, spelled j b v h.0 (ends v.tree h.0 h.3 ∙ all) (h.1, h.2) h.3)
+pub one_value : (fault : Option OpenFault) (j : Query) (d : Decoding) (b : List ℕ) (v : Seen) →
+    WasFed fault j d b → d.taken ≡ length b → FinishesDecoder d.query b (Ok v) →
+    (fault ≡ None) × (value_in j b ≡ Some v)
+one_value fault j d b v fed all h =
+    let is = spelled d.query b v h.0 (fed.ends v.tree h.0 h.3 ∙ all) (h.1, h.2) h.3 in
+    (fed.none, subst (λ (q : Query). value_in q b ≡ Some v) fed.query is)
 
 -- what is at most a number, and is not it, is less
 short : (n len : ℕ) → n ≤ len → (n ≡ len → ⊥) → n < len
@@ -129,12 +170,16 @@ within n limit b front rest is own =
     omega (arith, own, ap length is, length-append front rest, length-take limit b)
 
 -- a value that does not take all the bytes is followed by others, and all spell no value
-pub one_front : (forbidden : Option OpenFault) (j : Query) (b : List ℕ) (v : Seen) (n : ℕ) →
-    (n ≡ length b → ⊥) → forbidden ≡ None → EndsAt j b n → FinishesDecoder j b (Ok v) →
-    (forbidden ≡ None) × (value_in j b ≡ None) × Trails j n b
-one_front forbidden j b v n some none ends h =
-    let out = subst (λ m. IsOutcome j b (done v.tree) m) (ends v.tree h.0 h.3) h.3 in (
-      none,
-      not_all j b v.tree n some out,
-      (v.tree, out, short n (length b) (within n j.bytes b out.0 out.1 out.2 out.5) some),
-    )
+pub one_front : (fault : Option OpenFault) (j : Query) (d : Decoding) (b : List ℕ) (v : Seen)
+    (n : ℕ) → WasFed fault j d b → n ≡ d.taken → (n ≡ length b → ⊥) →
+    FinishesDecoder d.query b (Ok v) →
+    (fault ≡ None) × (value_in j b ≡ None) × Trails j n b
+one_front fault j d b v n fed count some h =
+    let out = subst (λ m. IsOutcome d.query b (done v.tree) m)
+    (fed.ends v.tree h.0 h.3 ∙ sym count) h.3 in
+    let both : (value_in d.query b ≡ None) × Trails d.query n b = (
+      not_all d.query b v.tree n some out,
+      (v.tree, out, short n (length b) (within n d.query.bytes b out.0 out.1 out.2 out.5) some),
+    ) in
+    let moved = subst (λ (q : Query). (value_in q b ≡ None) × Trails q n b) fed.query both in
+    (fed.none, moved.0, moved.1)
