@@ -1,13 +1,11 @@
-//! Tests of registries and their parts: integers and texts, the parts of types, the memory that
-//! claimed lengths reserve, and large registries.
+//! Tests of integers and registries: worked examples, the memory that claimed lengths reserve, the
+//! growth of vectors, and large registries.
 #![tactic(auto)]
 
 #[cfg(test)]
-mod chain;
-#[cfg(test)]
-mod devices;
-#[cfg(test)]
 mod expect;
+#[cfg(test)]
+mod growth;
 #[cfg(test)]
 mod integers;
 #[cfg(test)]
@@ -16,5 +14,3 @@ mod large_registries;
 mod memory;
 #[cfg(test)]
 mod registries;
-#[cfg(test)]
-mod texts;

@@ -2,10 +2,10 @@
 //! tables.
 
 use crate::expect::same;
+use crate::large_registries::many_fields;
 use registry_core::{
     Arm, Field, RegistryFault, RegistryReason, TypeInfo, read_metadata, read_registry,
 };
-use scale_core::write_compact;
 use std::alloc::{AllocError, Global};
 use std::fs;
 use std::process::Abort;
@@ -105,72 +105,41 @@ fn measured(rt: &(impl Files + Alloc)) -> Result<Reserved, Fail> {
     Ok(Reserved { now, most })
 }
 
-/// Checks that at least this many KiB were reserved and kept from one measurement to the next, and
-/// never as much as 1 MiB more.
-fn check_growth(rt: &impl Abort, before: Reserved, after: Reserved, kib: u64) {
+/// Checks that at least `least` KiB were reserved and kept from one measurement to the next, and
+/// that fewer than `bound` were reserved at any time.
+fn check_growth(rt: &impl Abort, before: Reserved, after: Reserved, least: u64, bound: u64) {
     let kept = after.now.saturating_sub(before.now);
     let most = after.most.saturating_sub(before.now);
-    same(rt, ((kept, kib), kib <= kept), ((kept, kib), true));
-    same(
-        rt,
-        ((most, kib), most < kib.saturating_add(1024)),
-        ((most, kib), true),
-    );
+    let grown = (kept, most);
+    same(rt, (grown, least <= kept && most < bound), (grown, true));
 }
 
 /// Returns the error of a registry that ends at this place.
-fn cut_at(at: usize) -> Option<RegistryFault> {
+fn cut_at(at: u64) -> Option<RegistryFault> {
     Some(RegistryFault {
         reason: RegistryReason::Truncated,
-        at: at as u64,
+        at,
     })
 }
 
-/// Checks that a registry that ends after the claimed length is rejected at its end.
+/// Checks that a registry that ends after the claimed length is rejected at its end, and metadata
+/// of it too.
 fn check_claim(
     rt: &impl Abort,
     alloc: Global,
     name: &str,
     front: &[u8],
     length: &[u8],
-) -> Result<(), Fail> {
+) -> Result<(), AllocError> {
     let mut bytes = Vec::from_slice(alloc, front)?;
     bytes.extend_from_slice(length)?;
+    let end = bytes.len() as u64;
     let reported = read_registry(alloc, &bytes).err();
-    same(
-        rt,
-        ((name, length), reported),
-        ((name, length), cut_at(bytes.len())),
-    );
-    Ok(())
-}
-
-/// Checks that metadata whose registry ends after the claimed length is rejected at its end.
-fn check_claim_of_metadata(
-    rt: &impl Abort,
-    alloc: Global,
-    name: &str,
-    front: &[u8],
-    length: &[u8],
-) -> Result<(), Fail> {
-    let mut bytes = Vec::from_slice(alloc, b"\x6d\x65\x74\x61\x0e")?;
-    bytes.extend_from_slice(front)?;
-    bytes.extend_from_slice(length)?;
-    let reported = read_metadata(alloc, &bytes).err();
-    same(
-        rt,
-        ((name, length), reported),
-        ((name, length), cut_at(bytes.len())),
-    );
-    Ok(())
-}
-
-/// Checks every claimed length at the place.
-fn check_place(rt: &impl Abort, alloc: Global, name: &str, front: &[u8]) -> Result<(), Fail> {
-    'lengths: for length in LENGTHS {
-        check_claim(rt, alloc, name, front, length)?;
-        check_claim_of_metadata(rt, alloc, name, front, length)?;
-    }
+    same(rt, (name, reported), (name, cut_at(end)));
+    let mut metadata = Vec::from_slice(alloc, b"meta\x0e")?;
+    metadata.extend_from_slice(&bytes)?;
+    let reported = read_metadata(alloc, &metadata).err();
+    same(rt, (name, reported), (name, cut_at(end.saturating_add(5))));
     Ok(())
 }
 
@@ -180,10 +149,12 @@ fn check_place(rt: &impl Abort, alloc: Global, name: &str, front: &[u8]) -> Resu
 fn claimed_lengths_reserve_nothing(rt: HostRuntime) -> Result<(), Fail> {
     let before = measured(&rt)?;
     'places: for (name, front) in PLACES {
-        check_place(&rt, rt.alloc(), name, front)?;
+        'lengths: for length in LENGTHS {
+            check_claim(&rt, rt.alloc(), name, front, length)?;
+        }
     }
     let after = measured(&rt)?;
-    check_growth(&rt, before, after, 0);
+    check_growth(&rt, before, after, 0, 1024);
     Ok(())
 }
 
@@ -196,19 +167,8 @@ fn room_that_is_asked_for_at_once_is_measured(rt: HostRuntime) -> Result<(), Fai
     list.push(7u8)?;
     let after = measured(&rt)?;
     same(&rt, list.as_slice(), [7].as_slice());
-    check_growth(&rt, before, after, 0x10_0000);
+    check_growth(&rt, before, after, 0x10_0000, 0x10_0400);
     Ok(())
-}
-
-/// Returns a registry of a composite of 32,800 fields without names.
-fn many_fields(alloc: Global) -> Result<Vec<u8>, AllocError> {
-    let mut bytes = Vec::from_slice(alloc, b"\x04\x00\x00\x00\x00")?;
-    write_compact(&mut bytes, 32_800)?;
-    'fields: for _ in 0..32_800 {
-        bytes.extend_from_slice(&[0, 0, 0, 0])?;
-    }
-    bytes.push(0)?;
-    Ok(bytes)
 }
 
 // A list grows with what was read, and at most to its claimed length, which takes 3075 KiB here. It
@@ -216,15 +176,12 @@ fn many_fields(alloc: Global) -> Result<Vec<u8>, AllocError> {
 // fourfold whatever is claimed, has a capacity of 65,536 fields, which take 6144 KiB.
 #[test]
 fn a_whole_list_has_no_room_to_spare(rt: HostRuntime) -> Result<(), Fail> {
-    let bytes = many_fields(rt.alloc())?;
+    let bytes = many_fields(rt.alloc(), 32_800)?;
     let before = measured(&rt)?;
     let (registry, count) = read_registry(rt.alloc(), &bytes)?;
     let after = measured(&rt)?;
-    same(&rt, (registry.types().len(), count), (1, 131_210));
-    let kept = after.now.saturating_sub(before.now);
-    let most = after.most.saturating_sub(before.now);
-    same(&rt, (kept, 3075 <= kept), (kept, true));
-    same(&rt, (most, most < 5632), (most, true));
+    same(&rt, (registry.types().len(), count), (2, 131_216));
+    check_growth(&rt, before, after, 3075, 5632);
     Ok(())
 }
 

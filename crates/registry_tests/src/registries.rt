@@ -1,11 +1,11 @@
-//! The parts of a registry's types, and the printed text of faults.
+//! The parts of a registry's types.
 
 use crate::expect::same;
 use registry_core::{
-    Arm, Field, Items, Keys, Registry, RegistryFault, RegistryReason, Text, TypeDef, TypeId,
-    TypeInfo, read_registry,
+    Arm, Field, Items, Keys, Name, Param, Registry, RegistryFault, RegistryReason, Text, TypeDef,
+    TypeId, read_registry,
 };
-use std::process::Abort;
+use std::alloc::Global;
 use std::test::Fail;
 use token_core::Escapes;
 
@@ -17,138 +17,121 @@ const OPTION: &[u8] =
 const PAIR: &[u8] =
     b"\x08\x00\x00\x00\x05\x03\x00\x04\x00\x00\x00\x08\x01\x04b\x00\x00\x00\x01\x08a\"\x00\x00\x00\x00";
 
-/// Returns the second of the registry's two types.
-fn second_of(registry: &Registry) -> Result<&TypeInfo, &'static str> {
-    match registry.types() {
-        [_, info] => Ok(info),
-        _ => Err("there are not two types"),
-    }
+/// Returns the registry of these bytes.
+fn registry_of(alloc: Global, bytes: &[u8]) -> Result<Registry, RegistryFault> {
+    let (registry, _) = read_registry(alloc, bytes)?;
+    Ok(registry)
 }
 
-/// Returns the arms of a variant.
-fn arms_of(info: &TypeInfo) -> Result<&[Arm], &'static str> {
-    match &info.shape {
-        TypeDef::Variant(arms) => Ok(arms.as_slice()),
-        _ => Err("the type is not a variant"),
-    }
-}
-
-/// Returns the only element of the list.
-fn only<T>(items: &[T]) -> Result<&T, &'static str> {
-    match items {
-        [item] => Ok(item),
-        _ => Err("there is not one element"),
-    }
-}
-
-#[test]
-fn the_path_and_the_parameters_of_a_type_are_seen(rt: HostRuntime) -> Result<(), Fail> {
-    let (registry, _) = read_registry(rt.alloc(), OPTION)?;
-    let info = second_of(&registry)?;
-    same(&rt, only(info.path.as_slice())?.as_str(), "Option");
-    let param = only(info.params.as_slice())?;
-    same(&rt, (param.name.as_str(), param.ty), ("T", Some(TypeId(0))));
-    same(&rt, info.docs.is_empty(), true);
-    Ok(())
-}
-
-/// Checks the arm's name, its index and its number of fields.
-fn check_arm(rt: &impl Abort, arm: &Arm, name: &str, index: u8, fields: usize) {
-    same(rt, arm.name.as_str(), name);
-    same(rt, (arm.index, arm.fields.len()), (index, fields));
-}
-
-#[test]
-fn the_arms_of_a_type_are_seen(rt: HostRuntime) -> Result<(), Fail> {
-    let (registry, _) = read_registry(rt.alloc(), OPTION)?;
-    let [none, some] = arms_of(second_of(&registry)?)? else {
-        return Err(Fail::from("there are not two arms"));
+/// Returns the only segment of the path, the only parameter and the two arms of the registry's
+/// second type.
+fn parts_of(registry: &Registry) -> Option<(&Text, &Param, &Arm, &Arm)> {
+    let [_, info] = registry.types() else {
+        return None;
     };
-    check_arm(&rt, none, "None", 0, 0);
-    check_arm(&rt, some, "Some", 1, 1);
+    let TypeDef::Variant(arms) = &info.shape else {
+        return None;
+    };
+    match (
+        info.path.as_slice(),
+        info.params.as_slice(),
+        arms.as_slice(),
+    ) {
+        ([segment], [param], [first, second]) => Some((segment, param, first, second)),
+        _ => None,
+    }
+}
+
+#[test]
+fn the_parts_of_a_variant_are_seen(rt: HostRuntime) -> Result<(), Fail> {
+    let registry = registry_of(rt.alloc(), OPTION)?;
+    let Some((segment, param, none, some)) = parts_of(&registry) else {
+        return Err("other parts")?;
+    };
+    let named = (segment.as_str(), param.name.as_str(), param.ty);
+    same(&rt, named, ("Option", "T", Some(TypeId(0))));
+    same(&rt, (none.name.as_str(), none.index), ("None", 0));
+    same(&rt, (some.name.as_str(), some.index), ("Some", 1));
+    same(&rt, (none.fields.len(), some.fields.len()), (0, 1));
     Ok(())
+}
+
+/// Returns the names of a field and of its type.
+fn names_of(field: &Field) -> (Option<&str>, Option<&str>) {
+    let name = match &field.name {
+        Some(name) => Some(name.as_str()),
+        None => None,
+    };
+    let type_name = match &field.type_name {
+        Some(type_name) => Some(type_name.as_str()),
+        None => None,
+    };
+    (name, type_name)
 }
 
 #[test]
 fn the_field_of_an_arm_is_seen(rt: HostRuntime) -> Result<(), Fail> {
-    let (registry, _) = read_registry(rt.alloc(), OPTION)?;
-    let [_, some] = arms_of(second_of(&registry)?)? else {
-        return Err(Fail::from("there are not two arms"));
+    let registry = registry_of(rt.alloc(), OPTION)?;
+    let Some((_, _, _, some)) = parts_of(&registry) else {
+        return Err("other parts")?;
     };
-    let field: &Field = only(some.fields.as_slice())?;
-    same(&rt, (field.name.is_none(), field.ty), (true, TypeId(0)));
-    let type_name = field.type_name.as_ref().ok_or("no type name")?;
-    let printed = format!(in rt.alloc(); "{type_name}")?;
-    same(&rt, printed.as_str(), "T");
+    let [field] = some.fields.as_slice() else {
+        return Err("not one field")?;
+    };
+    same(&rt, names_of(field), (None, Some("T")));
+    same(&rt, field.ty, TypeId(0));
     Ok(())
+}
+
+/// Returns the names of the two fields of the registry's second type, and the order of the names.
+fn names_of_pair(registry: &Registry) -> Option<(&Name, &Name, &[u32])> {
+    let [_, info] = registry.types() else {
+        return None;
+    };
+    let TypeDef::Composite(fields) = &info.shape else {
+        return None;
+    };
+    let ([first, second], Keys::Sorted(order)) = (fields.as_slice(), fields.keys()) else {
+        return None;
+    };
+    match (&first.name, &second.name) {
+        (Some(first), Some(second)) => Some((first, second, order.as_slice())),
+        _ => None,
+    }
 }
 
 #[test]
 fn the_order_and_the_escapes_of_names_are_seen(rt: HostRuntime) -> Result<(), Fail> {
-    let (registry, _) = read_registry(rt.alloc(), PAIR)?;
-    let TypeDef::Composite(fields) = &second_of(&registry)?.shape else {
-        return Err(Fail::from("the type is not a composite"));
+    let registry = registry_of(rt.alloc(), PAIR)?;
+    let Some((first, second, order)) = names_of_pair(&registry) else {
+        return Err("other parts")?;
     };
-    let Keys::Sorted(order) = fields.keys() else {
-        return Err(Fail::from("the names are in order"));
-    };
-    same(
-        &rt,
-        (fields.len(), order.as_slice()),
-        (2, [1, 0].as_slice()),
-    );
-    'names: for (field, (text, plain)) in fields
-        .as_slice()
-        .iter()
-        .zip([("b", true), ("a\"", false)])
-    {
-        let name = field.name.as_ref().ok_or("no name")?;
-        same(&rt, (name.as_str(), name.as_text().as_str()), (text, text));
-        same(&rt, matches!(name.escapes(), Escapes::None), plain);
-    }
+    same(&rt, (first.as_str(), second.as_str()), ("b", "a\""));
+    same(&rt, order, [1, 0].as_slice());
+    same(&rt, matches!(first.escapes(), Escapes::None), true);
+    same(&rt, matches!(second.escapes(), Escapes::None), false);
     Ok(())
 }
 
 #[test]
-fn texts_keep_what_they_were_made_of(rt: HostRuntime) -> Result<(), Fail> {
+fn texts_and_lists_keep_what_they_were_made_of(rt: HostRuntime) -> Result<(), Fail> {
     let text = Text::from_string(String::from_str(rt.alloc(), "caf\u{e9}")?);
-    let reported = (text.as_str(), text.len(), text.is_empty());
-    same(&rt, reported, ("caf\u{e9}", 5, false));
+    same(&rt, (text.as_str(), text.len()), ("caf\u{e9}", 5));
     same(&rt, text.into_string().as_str(), "caf\u{e9}");
-    Ok(())
-}
-
-#[test]
-fn lists_keep_what_they_were_made_of(rt: HostRuntime) -> Result<(), Fail> {
     let items = Items::from_vec([3, 1, 2].to_vec(rt.alloc())?);
     same(&rt, (items.len(), items.is_empty()), (3, false));
-    same(&rt, items.iter().copied().max(), Some(3));
     same(&rt, items.into_vec().as_slice(), [3, 1, 2].as_slice());
     Ok(())
 }
 
+// The other reasons are printed by the rows of `registries.tsv`.
 #[test]
-fn a_registry_fault_is_printed_as_its_reason_and_place(rt: HostRuntime) -> Result<(), Fail> {
-    let lines = [
-        (RegistryReason::Truncated, "Truncated at 7"),
-        (RegistryReason::BadUtf8, "BadUtf8 at 7"),
-        (
-            RegistryReason::CompactNotShortest,
-            "CompactNotShortest at 7",
-        ),
-        (RegistryReason::CompactTooLarge, "CompactTooLarge at 7"),
-        (RegistryReason::BadOption, "BadOption at 7"),
-        (RegistryReason::BadDefinition, "BadDefinition at 7"),
-        (RegistryReason::BadPrimitive, "BadPrimitive at 7"),
-        (RegistryReason::IdOutOfPlace, "IdOutOfPlace at 7"),
-        (RegistryReason::NotMetadata, "NotMetadata at 7"),
-        (RegistryReason::WrongVersion, "WrongVersion at 7"),
-        (RegistryReason::OutOfMemory, "OutOfMemory at 7"),
-    ];
-    'lines: for (reason, line) in lines {
-        let fault = RegistryFault { reason, at: 7 };
-        let printed = format!(in rt.alloc(); "{fault}")?;
-        same(&rt, printed.as_str(), line);
-    }
+fn a_failed_allocation_is_printed_by_its_name(rt: HostRuntime) -> Result<(), Fail> {
+    let fault = RegistryFault {
+        reason: RegistryReason::OutOfMemory,
+        at: 7,
+    };
+    let printed = format!(in rt.alloc(); "{fault}")?;
+    same(&rt, printed.as_str(), "OutOfMemory at 7");
     Ok(())
 }

@@ -1,12 +1,17 @@
-//! Tests of values: their nodes and how they are kept, walks, and what is written to devices.
+//! Tests of builders and values: failed allocations, full heaps, walks, the nodes of a value, and
+//! devices that fail.
 #![tactic(auto)]
 
 #[cfg(test)]
-mod encoder_devices;
+mod builder_memory;
+#[cfg(test)]
+mod devices;
 #[cfg(test)]
 mod expect;
 #[cfg(test)]
-mod growth;
+mod full_heaps;
+#[cfg(test)]
+mod open_runs;
 #[cfg(test)]
 mod values;
 #[cfg(test)]

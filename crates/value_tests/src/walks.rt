@@ -2,7 +2,7 @@
 
 use crate::expect::same;
 use scale_tests::builders::{begun, counts, finished};
-use scale_tests::building::{Call, add, checked, what_stands};
+use scale_tests::building::{Call, add, checked};
 use scale_tests::registries::{CHAIN, WORDS_AND_A_BYTE};
 use std::alloc::Global;
 use std::process::Abort;
@@ -39,24 +39,23 @@ fn the_elements_that_follow_the_next_one_are_counted(rt: HostRuntime) -> Result<
     Ok(())
 }
 
-/// Checks what comes next in the builder, and its depth.
-fn check_next(rt: &impl Abort, builder: &Builder<'_, Global>, next: Next, depth: u16) {
-    let standing = what_stands(builder);
-    same(rt, (standing.next, standing.depth), (next, depth));
-}
-
 // The root has depth 0, so a node inside 1024 others is the deepest that a builder accepts.
 #[test]
 fn a_walk_goes_to_the_greatest_depth(rt: HostRuntime) -> Result<(), Fail> {
     let checked = checked(rt.alloc(), CHAIN)?;
     let mut builder = begun(rt.alloc(), &checked, 0, 1024)?;
     'levels: for level in 0..1024 {
-        check_next(&rt, &builder, Next::Wants(Form::Arm), level);
+        let walk = builder.walk();
+        same(
+            &rt,
+            (walk.next(), walk.depth()),
+            (Next::Wants(Form::Arm), level),
+        );
         add(&mut builder, Call::Arm(1))?;
     }
-    check_next(&rt, &builder, Next::Wants(Form::Arm), 1024);
+    same(&rt, builder.walk().depth(), 1024);
     add(&mut builder, Call::Arm(0))?;
-    check_next(&rt, &builder, Next::Finished, 0);
+    same(&rt, builder.walk().next(), Next::Finished);
     let value = finished(builder)?;
     same(&rt, counts(&value), (1025, 0));
     Ok(())

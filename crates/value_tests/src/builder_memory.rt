@@ -283,50 +283,63 @@ fn each_kind_of_call_reports_a_failed_allocation(rt: HostRuntime) -> Result<(), 
     Ok(())
 }
 
-// The first request is for the bytes of the run, and the second would be for its node.
+/// A call, and the error with which it is rejected.
+type Answer = (Call<'static>, Option<BuildFault>);
+
+/// A registry, a type, the request that fails, the calls with their errors, and whether the request
+/// is made.
+type Order = (&'static [u8], u32, u64, &'static [Answer], bool);
+
+/// A bad call is rejected before anything is allocated for it. The greatest integer of 64 bits
+/// needs no bytes outside its node.
+const ORDERS: [Order; 3] = [
+    (
+        BYTES,
+        1,
+        1,
+        &[
+            (Call::BytesStart(2), None),
+            (
+                Call::BytesPiece(b"\x07\xff\x00"),
+                Some(BuildFault::OutOfRange),
+            ),
+            (Call::BytesEnd, Some(BuildFault::UnfinishedValue)),
+            (Call::BytesPiece(b"\x07\xff"), Some(BuildFault::OutOfMemory)),
+            (Call::BytesPiece(b"\x07\xff"), None),
+        ],
+        true,
+    ),
+    (
+        TEXT,
+        0,
+        2,
+        &[
+            (Call::TextStart(1), None),
+            (Call::TextPiece(b"\xff"), None),
+            (Call::TextEnd, Some(BuildFault::BadText { valid: 0 })),
+        ],
+        false,
+    ),
+    (
+        U128,
+        0,
+        2,
+        &[(Call::Unsigned(18_446_744_073_709_551_615), None)],
+        false,
+    ),
+];
+
 #[test]
-fn a_piece_that_does_not_fit_is_reported_before_a_failed_allocation(
-    rt: HostRuntime,
-) -> Result<(), Fail> {
-    let checked = checked(rt.alloc(), BYTES)?;
-    let memory = Rationed::new(rt.alloc(), 1);
-    let mut builder = begun(&memory, &checked, 1, 64)?;
-    let long = Call::BytesPiece(b"\x07\xff\x00");
-    let whole = Call::BytesPiece(b"\x07\xff");
-    let rows = [
-        (Call::BytesStart(2), None),
-        (long, Some(BuildFault::OutOfRange)),
-        (Call::BytesEnd, Some(BuildFault::UnfinishedValue)),
-        (whole, Some(BuildFault::OutOfMemory)),
-        (whole, None),
-    ];
-    'calls: for (call, fault) in rows {
-        same(&rt, add(&mut builder, call).err(), fault);
+fn a_bad_call_is_reported_before_a_failed_allocation(rt: HostRuntime) -> Result<(), Fail> {
+    'orders: for (registry, ty, request, answers, is_made) in ORDERS {
+        let checked = checked(rt.alloc(), registry)?;
+        let memory = Rationed::new(rt.alloc(), request);
+        let mut builder = begun(&memory, &checked, ty, 64)?;
+        'calls: for (call, fault) in answers {
+            same(&rt, add(&mut builder, *call).err(), *fault);
+        }
+        same(&rt, memory.is_past_refusal(), is_made);
     }
-    Ok(())
-}
-
-#[test]
-fn bad_text_is_reported_before_a_failed_allocation(rt: HostRuntime) -> Result<(), Fail> {
-    let checked = checked(rt.alloc(), TEXT)?;
-    let memory = Rationed::new(rt.alloc(), 2);
-    let mut builder = begun(&memory, &checked, 0, 64)?;
-    let calls = [Call::TextStart(1), Call::TextPiece(b"\xff")];
-    add_all(&mut builder, &calls)?;
-    let reported = add(&mut builder, Call::TextEnd);
-    same(&rt, reported, Err(BuildFault::BadText { valid: 0 }));
-    same(&rt, !memory.is_past_refusal(), true);
-    Ok(())
-}
-
-// Only the node is allocated: the greatest integer of 64 bits needs no bytes outside its node.
-#[test]
-fn an_integer_of_64_bits_stands_in_its_node(rt: HostRuntime) -> Result<(), Fail> {
-    let checked = checked(rt.alloc(), U128)?;
-    let memory = Rationed::new(rt.alloc(), 2);
-    let mut builder = begun(&memory, &checked, 0, 64)?;
-    add(&mut builder, Call::Unsigned(18_446_744_073_709_551_615))?;
-    same(&rt, !memory.is_past_refusal(), true);
     Ok(())
 }
 

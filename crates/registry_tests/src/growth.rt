@@ -2,16 +2,12 @@
 
 use crate::expect::same;
 use growth_core::{make_room, make_room_ahead};
-use std::alloc::Global;
+use std::alloc::{AllocError, Global};
 use std::test::Fail;
 
 /// Returns a full vector of this length.
-fn full(alloc: Global, len: usize) -> Result<Vec<u8>, Fail> {
-    let mut list = Vec::with_capacity(alloc, len)?;
-    'elements: for _ in 0..len {
-        list.push(7)?;
-    }
-    Ok(list)
+fn full(alloc: Global, len: usize) -> Result<Vec<u8>, AllocError> {
+    vec![in alloc; 7; len]
 }
 
 // Each row: the length, how many elements are needed, how many are expected, and the capacity.
@@ -33,8 +29,7 @@ fn a_full_vector_grows_in_proportion(rt: HostRuntime) -> Result<(), Fail> {
     'rows: for (len, more, expected, capacity) in rows {
         let mut list = full(rt.alloc(), len)?;
         make_room(&mut list, more, expected)?;
-        same(&rt, (len, list.capacity()), (len, capacity));
-        same(&rt, (len, list.len()), (len, len));
+        same(&rt, (list.len(), list.capacity()), (len, capacity));
     }
     Ok(())
 }
@@ -46,7 +41,7 @@ fn a_vector_grows_ahead_of_what_is_expected(rt: HostRuntime) -> Result<(), Fail>
     'rows: for (len, expected, capacity) in rows {
         let mut list = full(rt.alloc(), len)?;
         make_room_ahead(&mut list, expected)?;
-        assert_eq!(rt; list.capacity(), capacity, "{len}, {expected}");
+        same(&rt, (len, list.capacity()), (len, capacity));
     }
     Ok(())
 }
