@@ -6,7 +6,7 @@ mod command_help;
 #[cfg(test)]
 mod command_limits;
 #[cfg(test)]
-mod command_line;
+mod command_words;
 #[cfg(test)]
 mod expect;
 #[cfg(test)]
