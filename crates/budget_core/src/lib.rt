@@ -2,7 +2,5 @@
 #![tactic(auto)]
 
 mod budget;
-#[cfg(test)]
-mod tests;
 
 pub use budget::Budget;

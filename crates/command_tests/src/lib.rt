@@ -1,8 +1,6 @@
-//! Tests of the command: its limits, devices that fail, its help, and words that no row can hold.
+//! Tests of the command: its limits, devices that fail, and words that no row can hold.
 #![tactic(auto)]
 
-#[cfg(test)]
-mod command_help;
 #[cfg(test)]
 mod command_limits;
 #[cfg(test)]

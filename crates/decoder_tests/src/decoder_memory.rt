@@ -1,21 +1,23 @@
 //! Decoders whose allocations fail when they are created, fed or finished.
 
-use crate::expect::same;
-use decode_core::{DecodeFault, DecodeReason, Decoder, OpenFault, Progress};
-use decoder_calls::calls::{Holding, feed, finish, held, open, opening_fault};
+use crate::expect::{printed_as, same};
+use decode_core::{DecodeFault, DecodeReason, Decoder, OpenFault, StreamFault};
+use decoder_calls::calls::{Holding, all_of, feed, finish, front_of, held, open, opening_fault};
 use linked_list_allocator::LocalHeap;
-use scale_core::write_compact;
+use scale_core::{Source, write_compact};
 use scale_tests::building::{checked, written};
+use scale_tests::paced::{PacedReader, Then};
 use scale_tests::rationed::Rationed;
 use scale_tests::registries::{NESTED, TEXT, TWO_UNITS_AND_A_BYTE, WORDS, nested_pairs};
 use scale_tests::rows::AMPLE;
-use std::alloc::{Allocator, Global};
+use std::alloc::{AllocError, Allocator, Global};
 use std::process::Abort;
 use std::test::Fail;
+use value_core::Value;
 use widths_core::Checked;
 
 /// The texts ab and éé, three runs of one, two and no bytes, and a chain of four arms.
-pub(crate) const NESTED_BYTES: &[u8] =
+const NESTED_BYTES: &[u8] =
     b"\x08ab\x0c\x04\x01\x08\x02\x03\x00\x01\x01\x01\x00\x10\xc3\xa9\xc3\xa9";
 
 pub(crate) const REFUSED: DecodeFault = DecodeFault {
@@ -23,45 +25,40 @@ pub(crate) const REFUSED: DecodeFault = DecodeFault {
     at: 0,
 };
 
-#[test]
-fn a_failed_allocation_is_printed_by_its_name(rt: HostRuntime) -> Result<(), Fail> {
-    let line = format!(in rt.alloc(); "{REFUSED}")?;
-    same(&rt, line.as_str(), "OutOfMemory at 0");
-    Ok(())
-}
-
 // A decoder clones its allocator twice, for its nodes and for its bytes, and requests nothing else
-// at first.
+// at first. Without a decoder no reader is read.
 #[test]
 fn memory_that_is_refused_at_first_makes_no_decoder(rt: HostRuntime) -> Result<(), Fail> {
     let checked = checked(rt.alloc(), NESTED)?;
-    let refused = Some(OpenFault::OutOfMemory);
-    'requests: for (request, fault) in [(1, refused), (2, refused), (3, None), (0, None)] {
+    let refused = OpenFault::OutOfMemory;
+    'requests: for request in [1, 2] {
         let memory = Rationed::new(rt.alloc(), request);
-        let reported = opening_fault(memory, &checked, 5, AMPLE);
-        same(&rt, (request, reported), (request, fault));
+        let fault = opening_fault(memory, &checked, 5, AMPLE);
+        same(&rt, fault, Some(refused));
+        let memory = Rationed::new(rt.alloc(), request);
+        let Err(fault) = front_of(memory, &checked, 5, AMPLE, &[NESTED_BYTES]) else {
+            return Err("a value without a decoder")?;
+        };
+        printed_as(&rt, rt.alloc(), fault, "OutOfMemory")?;
+        let memory = Rationed::new(rt.alloc(), request);
+        let mut source = Source::new(PacedReader::new(b"", 1, Then::Fails));
+        let fault = all_of(memory, &checked, 5, AMPLE, &mut source).err();
+        let wanted = Some(StreamFault::Open(refused));
+        same(&rt, (fault, source.failed()), (wanted, false));
     }
+    let memory = Rationed::new(rt.alloc(), 3);
+    same(&rt, opening_fault(memory, &checked, 5, AMPLE), None);
     Ok(())
-}
-
-/// Returns the progress after the byte at this place if no allocation fails.
-fn wanted_progress(place: usize) -> Progress {
-    if place.saturating_add(1) == NESTED_BYTES.len() {
-        Progress::Done { used: 1 }
-    } else {
-        Progress::More
-    }
 }
 
 /// Feeds the nested value byte by byte. Returns the place of the byte at which an allocation fails,
 /// or `None` if no allocation fails.
 fn place_of_refusal<A: Allocator>(rt: &impl Abort, decoder: &mut Decoder<'_, A>) -> Option<u64> {
     'bytes: for (place, byte) in NESTED_BYTES.iter().enumerate() {
-        let reported = feed(decoder, &[*byte]);
-        if reported == Err(REFUSED) {
+        if let Err(fault) = feed(decoder, &[*byte]) {
+            same(rt, fault, REFUSED);
             return Some(place as u64);
         }
-        same(rt, (place, reported), (place, Ok(wanted_progress(place))));
     }
     None
 }
@@ -72,79 +69,100 @@ fn check_refused<A: Allocator>(rt: &impl Abort, decoder: Decoder<'_, A>, place: 
     let mut decoder = decoder;
     let taken = held(&decoder).taken;
     // The last byte of a run is taken before its node is allocated.
-    same(
-        rt,
-        (place, taken == place || taken == place.saturating_add(1)),
-        (place, true),
-    );
+    let is_taken = taken == place || taken == place.saturating_add(1);
+    same(rt, (place, is_taken), (place, true));
     let nothing = Holding {
         nodes: 0,
         texts: 0,
         taken,
     };
-    same(rt, (place, held(&decoder)), (place, nothing));
+    same(rt, held(&decoder), nothing);
     'pieces: for piece in [b"".as_slice(), NESTED_BYTES] {
-        same(
-            rt,
-            (place, feed(&mut decoder, piece)),
-            (place, Err(REFUSED)),
-        );
-        same(rt, (place, held(&decoder)), (place, nothing));
+        let reported = feed(&mut decoder, piece);
+        same(rt, (reported, held(&decoder)), (Err(REFUSED), nothing));
     }
-    same(rt, (place, finish(decoder).err()), (place, Some(REFUSED)));
+    same(rt, finish(decoder).err(), Some(REFUSED));
 }
 
-/// Checks that the decoder has the nested value.
-fn check_untroubled<A: Allocator>(
-    rt: &impl Abort,
-    alloc: Global,
-    decoder: Decoder<'_, A>,
-) -> Result<(), Fail> {
-    let whole = Holding {
-        nodes: 11,
-        texts: 9,
-        taken: 19,
-    };
-    same(rt, held(&decoder), whole);
-    let value = finish(decoder).ok().ok_or("no value")?;
-    let bytes = written(alloc, &value)?;
-    same(rt, bytes.as_slice(), NESTED_BYTES);
-    Ok(())
+/// How the nested value is decoded.
+#[derive(Clone, Copy)]
+enum Way {
+    Bytes,
+    Pieces,
+    Reader,
 }
 
-/// Decodes the nested value, and returns whether an allocation failed.
-fn is_refused<A: Allocator + Clone>(
+/// Decodes the nested value byte by byte. Returns `None` if an allocation fails.
+fn value_of_bytes<'r, A: Allocator + Clone>(
     rt: &impl Abort,
-    alloc: Global,
-    checked: &Checked,
+    checked: &'r Checked,
     memory: A,
-) -> Result<bool, Fail> {
+) -> Result<Option<Value<'r, A>>, Fail> {
     let mut decoder = open(memory, checked, 5, AMPLE)?;
     match place_of_refusal(rt, &mut decoder) {
         Some(place) => {
             check_refused(rt, decoder, place);
-            Ok(true)
+            Ok(None)
         }
-        None => {
-            check_untroubled(rt, alloc, decoder)?;
-            Ok(false)
+        None => Ok(finish(decoder).ok()),
+    }
+}
+
+/// Decodes the nested value from two pieces. Returns `None` if an allocation fails.
+fn value_of_pieces<'r, A: Allocator + Clone>(
+    rt: &impl Abort,
+    alloc: Global,
+    checked: &'r Checked,
+    memory: A,
+) -> Result<Option<Value<'r, A>>, Fail> {
+    let (front, rest) = NESTED_BYTES.split_at(8);
+    match front_of(memory, checked, 5, AMPLE, &[front, rest]) {
+        Ok((value, _)) => Ok(Some(value)),
+        Err(fault) => {
+            printed_as(rt, alloc, fault, "OutOfMemory at 0")?;
+            Ok(None)
         }
     }
 }
 
-/// Decodes the nested value while this request fails. Returns whether the request was made.
-fn check_feeds(
+/// Decodes the nested value from a reader. Returns `None` if an allocation fails.
+fn value_of_reader<'r, A: Allocator + Clone>(
+    rt: &impl Abort,
+    checked: &'r Checked,
+    memory: A,
+) -> Option<Value<'r, A>> {
+    let mut source = Source::new(PacedReader::new(NESTED_BYTES, 3, Then::GoesOn));
+    match all_of(memory, checked, 5, AMPLE, &mut source) {
+        Ok(value) => Some(value),
+        Err(fault) => {
+            same(rt, fault, StreamFault::Decode(REFUSED));
+            None
+        }
+    }
+}
+
+/// Decodes the nested value while this request fails. Returns whether the request is made: decoding
+/// then fails, and it succeeds otherwise.
+fn is_requested(
     rt: &impl Abort,
     alloc: Global,
     checked: &Checked,
     heap: &LocalHeap,
-    request: u64,
+    (way, request): (Way, u64),
 ) -> Result<bool, Fail> {
     let memory = Rationed::new(heap, request);
-    let refused = is_refused(rt, alloc, checked, &memory)?;
-    same(rt, (request, refused), (request, memory.is_past_refusal()));
+    let value = match way {
+        Way::Bytes => value_of_bytes(rt, checked, &memory)?,
+        Way::Pieces => value_of_pieces(rt, alloc, checked, &memory)?,
+        Way::Reader => value_of_reader(rt, checked, &memory),
+    };
+    let is_made = memory.is_past_refusal();
+    same(rt, (request, value.is_none()), (request, is_made));
+    if let Some(value) = value {
+        same(rt, written(alloc, &value)?.as_slice(), NESTED_BYTES);
+    }
     same(rt, (request, heap.used()), (request, 0));
-    Ok(refused)
+    Ok(is_made)
 }
 
 // Nodes, bytes of texts and runs, and open nodes are stored separately. Each store grows at least
@@ -153,13 +171,21 @@ fn check_feeds(
 fn each_refused_growth_ends_the_decoder(rt: HostRuntime) -> Result<(), Fail> {
     let checked = checked(rt.alloc(), NESTED)?;
     let heap = LocalHeap::new(rt.alloc(), 65_536)?;
-    'requests: for request in 1..1000 {
-        if !check_feeds(&rt, rt.alloc(), &checked, &heap, request)? {
-            same(&rt, (request, request > 3), (request, true));
-            return Ok(());
+    'ways: for way in [Way::Bytes, Way::Pieces, Way::Reader] {
+        let mut request = 1;
+        'requests: for _ in 0..1000 {
+            if !is_requested(&rt, rt.alloc(), &checked, &heap, (way, request))? {
+                break 'requests;
+            }
+            request += 1;
         }
+        same(
+            &rt,
+            (request, 3 < request && request < 1000),
+            (request, true),
+        );
     }
-    Err("each run is refused memory")?
+    Ok(())
 }
 
 /// The bytes of a long value, its type, and the number of its nodes.
@@ -171,9 +197,9 @@ struct Long<'c> {
     nodes: u64,
 }
 
-/// Feeds a long value in pieces of this many bytes while this request fails. If the request is
-/// made, feeding fails. Returns whether it was made.
-fn check_long(
+/// Feeds a long value in pieces of this many bytes while this request fails. Returns whether
+/// feeding fails, as it does exactly if the request is made.
+fn fails(
     rt: &impl Abort,
     alloc: Global,
     long: &Long<'_>,
@@ -184,23 +210,22 @@ fn check_long(
     let mut decoder = open(&memory, long.checked, long.ty, AMPLE)?;
     'pieces: for bytes in long.bytes.chunks(piece.max(1)) {
         if let Err(fault) = feed(&mut decoder, bytes) {
-            same(rt, ((piece, request), fault), ((piece, request), REFUSED));
-            same(
-                rt,
-                ((piece, request), memory.is_past_refusal()),
-                ((piece, request), true),
-            );
+            same(rt, (fault, memory.is_past_refusal()), (REFUSED, true));
             return Ok(true);
         }
     }
-    same(
-        rt,
-        ((piece, request), !memory.is_past_refusal()),
-        ((piece, request), true),
-    );
-    same(rt, (piece, held(&decoder).nodes), (piece, long.nodes));
-    finish(decoder).ok().ok_or("no value")?;
+    let nodes = held(&decoder).nodes;
+    same(rt, (nodes, memory.is_past_refusal()), (long.nodes, false));
     Ok(false)
+}
+
+/// Returns the encoded length of a text or a sequence, and `count` bytes `a` after it.
+pub(crate) fn letters(alloc: Global, length: u32, count: usize) -> Result<Vec<u8>, AllocError> {
+    let mut bytes = Vec::new(alloc);
+    write_compact(&mut bytes, u128::from(length))?;
+    let letters = vec![in alloc; b'a'; count]?;
+    bytes.extend_from_slice(&letters)?;
+    Ok(bytes)
 }
 
 // The list of open nodes is allocated once, and that of nodes with a capacity of 16. It then grows
@@ -210,11 +235,7 @@ fn check_long(
 #[test]
 fn a_long_list_makes_room_ahead(rt: HostRuntime) -> Result<(), Fail> {
     let checked = checked(rt.alloc(), WORDS)?;
-    let mut bytes = Vec::new(rt.alloc());
-    write_compact(&mut bytes, 20_000)?;
-    'words: for _ in 0..40_000 {
-        bytes.push(b'a')?;
-    }
+    let bytes = letters(rt.alloc(), 20_000, 40_000)?;
     let long = Long {
         checked: &checked,
         ty: 1,
@@ -223,12 +244,8 @@ fn a_long_list_makes_room_ahead(rt: HostRuntime) -> Result<(), Fail> {
     };
     'pieces: for piece in [50_000, 4096, 7] {
         'requests: for request in 1..=9 {
-            let made = check_long(&rt, rt.alloc(), &long, piece, request)?;
-            same(
-                &rt,
-                ((piece, request), made),
-                ((piece, request), request <= 8),
-            );
+            let made = fails(&rt, rt.alloc(), &long, piece, request)?;
+            same(&rt, (request, made), (request, request <= 8));
         }
     }
     Ok(())
@@ -240,11 +257,7 @@ fn a_long_list_makes_room_ahead(rt: HostRuntime) -> Result<(), Fail> {
 #[test]
 fn a_long_text_in_pieces_makes_room_ahead(rt: HostRuntime) -> Result<(), Fail> {
     let checked = checked(rt.alloc(), TEXT)?;
-    let mut bytes = Vec::new(rt.alloc());
-    write_compact(&mut bytes, 40_000)?;
-    'letters: for _ in 0..40_000 {
-        bytes.push(b'a')?;
-    }
+    let bytes = letters(rt.alloc(), 40_000, 40_000)?;
     let long = Long {
         checked: &checked,
         ty: 0,
@@ -252,69 +265,67 @@ fn a_long_text_in_pieces_makes_room_ahead(rt: HostRuntime) -> Result<(), Fail> {
         nodes: 1,
     };
     'requests: for request in 1..=6 {
-        let made = check_long(&rt, rt.alloc(), &long, 1000, request)?;
+        let made = fails(&rt, rt.alloc(), &long, 1000, request)?;
         same(&rt, (request, made), (request, request <= 5));
     }
     Ok(())
 }
 
 /// Finishes an unfed decoder while this request fails. Returns whether the request was made.
-fn check_finish(
+fn fails_to_finish(
     rt: &impl Abort,
     checked: &Checked,
-    heap: &LocalHeap,
     ty: u32,
-    request: u64,
+    memory: &Rationed<&LocalHeap>,
     untroubled: Option<DecodeFault>,
 ) -> Result<bool, Fail> {
-    let memory = Rationed::new(heap, request);
-    let decoder = open(&memory, checked, ty, AMPLE)?;
+    let decoder = open(memory, checked, ty, AMPLE)?;
     let reported = finish(decoder).err();
-    let refused = memory.is_past_refusal();
-    let wanted = if refused { Some(REFUSED) } else { untroubled };
-    same(rt, (request, reported), (request, wanted));
-    same(rt, (request, heap.used()), (request, 0));
-    Ok(refused)
+    let is_made = memory.is_past_refusal();
+    same(
+        rt,
+        reported,
+        if is_made { Some(REFUSED) } else { untroubled },
+    );
+    Ok(is_made)
 }
 
 /// Finishes unfed decoders while each request in turn fails, and one while no request fails.
 fn check_finishes(
     rt: &impl Abort,
     alloc: Global,
-    checked: &Checked,
+    registry: &[u8],
     ty: u32,
     untroubled: Option<DecodeFault>,
 ) -> Result<(), Fail> {
+    let checked = checked(alloc, registry)?;
     let heap = LocalHeap::new(alloc, 65_536)?;
+    let mut requests = 0;
     'requests: for request in 1..1000 {
-        if !check_finish(rt, checked, &heap, ty, request, untroubled)? {
-            same(
-                rt,
-                ("no request was made", request > 1),
-                ("no request was made", true),
-            );
-            return Ok(());
+        let memory = Rationed::new(&heap, request);
+        if !fails_to_finish(rt, &checked, ty, &memory, untroubled)? {
+            break 'requests;
         }
+        same(rt, (request, heap.used()), (request, 0));
+        requests = request;
     }
-    Err("each run is refused memory")?
+    same(
+        rt,
+        (requests, 0 < requests && requests < 999),
+        (requests, true),
+    );
+    Ok(())
 }
 
-// A value without bytes is built when the decoder is finished, if it was not fed before.
+// A value without bytes, and the nodes before the first byte, are built when the decoder is
+// finished if it was not fed before. A missing byte is reported only after that.
 #[test]
-fn a_value_without_bytes_may_be_refused_memory(rt: HostRuntime) -> Result<(), Fail> {
-    let registry = nested_pairs(rt.alloc())?;
-    let checked = checked(rt.alloc(), &registry)?;
-    check_finishes(&rt, rt.alloc(), &checked, 40, None)
-}
-
-// The nodes before the first byte are built when the decoder is finished, too. The missing byte is
-// reported only after that.
-#[test]
-fn nodes_before_the_first_byte_may_be_refused_memory(rt: HostRuntime) -> Result<(), Fail> {
-    let checked = checked(rt.alloc(), TWO_UNITS_AND_A_BYTE)?;
+fn an_unfed_decoder_may_be_refused_memory(rt: HostRuntime) -> Result<(), Fail> {
+    let pairs = nested_pairs(rt.alloc())?;
+    check_finishes(&rt, rt.alloc(), &pairs, 40, None)?;
     let cut = DecodeFault {
         reason: DecodeReason::Truncated,
         at: 0,
     };
-    check_finishes(&rt, rt.alloc(), &checked, 2, Some(cut))
+    check_finishes(&rt, rt.alloc(), TWO_UNITS_AND_A_BYTE, 2, Some(cut))
 }

@@ -1,10 +1,23 @@
-//! The comparison that tests use. It is a function, because the expansion of a macro is proved
+//! The comparisons that tests use. They are functions, because the expansion of a macro is proved
 //! again in every test.
 
-use std::fmt::Debug;
+use std::alloc::{AllocError, Global};
+use std::fmt::{Debug, Display};
 use std::process::Abort;
 
 /// Stops the test if the two differ.
 pub(crate) fn same<T: PartialEq + Debug + Drop>(rt: &impl Abort, found: T, wanted: T) {
     assert_eq!(rt; found, wanted);
+}
+
+/// Stops the test if the fault is not printed as this line.
+pub(crate) fn printed_as(
+    rt: &impl Abort,
+    alloc: Global,
+    fault: impl Display + Drop,
+    line: &str,
+) -> Result<(), AllocError> {
+    let printed = format!(in alloc; "{fault}")?;
+    same(rt, printed.as_str(), line);
+    Ok(())
 }

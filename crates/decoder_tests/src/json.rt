@@ -17,33 +17,24 @@ use value_core::{Builder, Value, WriteFault};
 
 /// Checks slices of every length up to one byte more than the text. The text is written at the
 /// start if it fits, and nothing else changes.
-fn check_slice(
+fn check_slices(
     rt: &impl Abort,
     alloc: Global,
     value: &Value<'_, Global>,
     text: &[u8],
-) -> Result<(), Fail> {
+) -> Result<(), AllocError> {
     'rooms: for room in 0..text.len() + 2 {
         let mut out = vec![in alloc; b'.'; room]?;
+        let mut wanted = vec![in alloc; b'.'; room]?;
+        if text.len() <= room {
+            wanted[..text.len()].copy_from_slice(text);
+        }
         same(
             rt,
-            (room, json_to_slice(alloc, alloc, value, &mut out)),
-            (room, Ok(text.len())),
+            json_to_slice(alloc, alloc, value, &mut out),
+            Ok(text.len()),
         );
-        if room < text.len() {
-            same(
-                rt,
-                (room, out.iter().all(|byte| *byte == b'.')),
-                (room, true),
-            );
-        } else {
-            same(rt, (room, &out[..text.len()]), (room, text));
-            same(
-                rt,
-                (room, out[text.len()..].iter().all(|byte| *byte == b'.')),
-                (room, true),
-            );
-        }
+        same(rt, out.as_slice(), wanted.as_slice());
     }
     Ok(())
 }
@@ -67,18 +58,10 @@ fn check_place(
             reason,
             written: place as u64,
         });
-        same(
-            rt,
-            (place, print(alloc, value, &mut sink)),
-            (place, Err(wanted)),
-        );
-        same(rt, (place, sink.failed()), (place, true));
+        let printed = print(alloc, value, &mut sink);
+        same(rt, (printed, sink.failed()), (Err(wanted), true));
         let taken = sink.into_inner().taken;
-        same(
-            rt,
-            (place, Some(taken.as_slice())),
-            (place, text.get(..place)),
-        );
+        same(rt, Some(taken.as_slice()), text.get(..place));
     }
 }
 
@@ -89,7 +72,7 @@ fn check_row(rt: &impl Abort, alloc: Global, row: &Row) -> Result<(), Fail> {
     let Ok((value, _)) = front_of(alloc, &checked, row.ty, AMPLE, &[row.bytes]) else {
         return Err(row.name)?;
     };
-    check_slice(rt, alloc, &value, row.json.as_bytes())?;
+    check_slices(rt, alloc, &value, row.json.as_bytes())?;
     'places: for place in 0..row.json.len() {
         check_place(rt, alloc, &value, row.json.as_bytes(), place);
     }
