@@ -256,8 +256,8 @@ uint32_t scaleview_arm_field(scaleview_registry registry, uint32_t type, uint32_
 uint32_t scaleview_path(scaleview_registry registry, uint32_t type, uint8_t *out, size_t room, scaleview_answer *answer);
 
 /* Finds the first type, from the position `from` on, whose path is these bytes, as scaleview_path writes it, and reports its
- * position in `answer->at`. To find all types of a path, call it again from the next position. No bytes find the first type
- * without a path. Otherwise it returns SCALEVIEW_UNKNOWN_TYPE or SCALEVIEW_NO_HANDLE. */
+ * position in `answer->at`. To find all types of a path, call it again from the next position. An empty path finds the first
+ * type that has none. Otherwise it returns SCALEVIEW_UNKNOWN_TYPE or SCALEVIEW_NO_HANDLE. */
 uint32_t scaleview_find(scaleview_registry registry, uint32_t from, const uint8_t *path, size_t length,
                         scaleview_answer *answer);
 
@@ -348,7 +348,8 @@ uint32_t scaleview_finish_nodes(scaleview_session *session, scaleview_node *node
 uint32_t scaleview_free(scaleview_session *session);
 
 /* Writes the name of a code, such as "Truncated", to the front of `out`: ASCII of `answer->length` bytes, at most 18, without
- * a terminating 0. A number that is no code has no byte. Otherwise it returns SCALEVIEW_NO_ROOM, and `out` is unchanged. */
+ * a terminating 0. For a number that is no code the name is empty. Otherwise it returns SCALEVIEW_NO_ROOM, and `out` is
+ * unchanged. */
 uint32_t scaleview_reason(uint32_t code, uint8_t *out, size_t room, scaleview_answer *answer);
 
 /* Returns the version of the library, which is SCALEVIEW_VERSION if this header is its own. */

@@ -39,7 +39,7 @@ struct Slot {
 /// A registry of types that is open. It is freed when it is dropped.
 ///
 /// It may be shared by threads. Calls that only read it run at the same time: decoding, encoding
-/// and what is asked of types. So do calls on different sessions.
+/// and questions about types. So do calls on different sessions.
 ///
 /// ```
 /// # use scaleview::{Error, Registry};
