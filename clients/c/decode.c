@@ -28,6 +28,10 @@ static struct bytes read_file(const char *path) {
         if (read.length == room) read.at = realloc(read.at, room *= 2);
     }
     if (!read.at) exit(4);
+    if (ferror(file)) {
+        perror(path);
+        exit(3);
+    }
     fclose(file);
     return read;
 }
@@ -122,7 +126,8 @@ static int decode_in_pieces(scaleview_registry registry, uint32_t type, uint16_t
 }
 
 static int usage(void) {
-    fprintf(stderr, "scaleview: usage\n");
+    fprintf(stderr, "scaleview: usage: decode types FILE [--metadata]\n"
+                    "       or: decode decode FILE ID VALUEFILE [--metadata] [--depth D] [--pieces N]\n");
     return 2;
 }
 
@@ -146,8 +151,10 @@ int main(int count, char **words) {
             if (!parse(words[++i], 1024, &depth)) return usage();
         } else if (!strcmp(words[i], "--pieces") && i + 1 < count) {
             if (!parse(words[++i], ULONG_MAX, &step) || !step) return usage();
-        } else if (named < 4) {
+        } else if (named < 4 && strncmp(words[i], "--", 2)) {
             names[named++] = words[i];
+        } else {
+            return usage();
         }
     }
     bool lists = named == 2 && !strcmp(names[0], "types");
@@ -169,5 +176,9 @@ int main(int count, char **words) {
     if (registry.inside) scaleview_close(&registry);
     free(file.at);
     free(out.at);
+    if (fflush(stdout) && status == 0) {
+        perror("stdout");
+        status = 3;
+    }
     return status;
 }

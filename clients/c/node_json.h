@@ -54,9 +54,11 @@ static inline void put_char(struct node_text *text, uint32_t code) {
 
 /* The decimal digits of an integer of two halves. */
 static inline void put_digits(struct node_text *text, uint64_t high, uint64_t low) {
+    // `__extension__` says that this type of the compiler's own is meant.
+    __extension__ typedef unsigned __int128 wide;
     char digits[40];
     size_t count = 0;
-    unsigned __int128 number = (unsigned __int128)high << 64 | low;
+    wide number = (wide)high << 64 | low;
     do digits[count++] = (char)('0' + (unsigned)(number % 10));
     while ((number /= 10) > 0);
     while (count > 0) *text->at++ = digits[--count];

@@ -59,12 +59,14 @@ inline std::string reason_of(std::uint32_t code) {
 /* Why there is no answer, in the words of the command. */
 class error : public std::runtime_error {
   public:
-    error(const scaleview_answer &answer, std::uint32_t type) : runtime_error(line(answer, type)), answer_(answer) {}
+    error(const scaleview_answer &answer, std::uint32_t type)
+        : runtime_error(line(answer, type)), answer_(answer),
+          place_(answer.code == SCALEVIEW_UNKNOWN_TYPE ? type : answer.at) {}
 
     /* The code, of enum scaleview_code. */
     std::uint32_t code() const { return answer_.code; }
     /* Where: in bytes from the start of the input, or the position of a node or of an unknown type. */
-    std::uint64_t place() const { return answer_.at; }
+    std::uint64_t place() const { return place_; }
     /* The type that refers to an unknown one. */
     std::uint32_t from() const { return answer_.from; }
 
@@ -83,6 +85,7 @@ class error : public std::runtime_error {
     }
 
     scaleview_answer answer_;
+    std::uint64_t place_;
 };
 
 /* How deep a value may be, how many bytes it may have, and how much memory the library may use for it; 0 is no budget. */
@@ -334,11 +337,13 @@ class registry {
         return found;
     }
 
-    /* The first type with this path, from a position on. */
+    /* The first type with this path, from a position on, if there is one. */
     std::optional<std::uint32_t> find(std::string_view path, std::uint32_t from = 0) const {
         scaleview_answer answer;
         const bytes_view bytes(path);
-        if (scaleview_find(handle(), from, bytes.data(), bytes.size(), &answer) != SCALEVIEW_OK) return std::nullopt;
+        const auto code = scaleview_find(handle(), from, bytes.data(), bytes.size(), &answer);
+        if (code == SCALEVIEW_UNKNOWN_TYPE) return std::nullopt;
+        detail::expect_ok(answer, from);
         return static_cast<std::uint32_t>(answer.at);
     }
 

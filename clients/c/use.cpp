@@ -89,7 +89,7 @@ static void check_small() {
     const std::vector<std::uint8_t> empty;
     check("no bytes", thrown([&] { registry.decode(0, empty); }, 0) == "value: Truncated at 0");
     check("no registry", thrown([&] { scaleview::registry::open(empty); }, 0) == "registry: Truncated at 0");
-    check("no type", thrown([&] { registry.decode(7, empty); }, 0) == "type: UnknownType 7");
+    check("no type", thrown([&] { registry.decode(7, empty); }, 7) == "type: UnknownType 7");
     check("a node", thrown([&] { registry.encode(0, {{{}}, {}}); }, 0) == "node: WrongKind at 0");
     check("a budget", thrown([&] { registry.decode(0, std::string_view("\x0cyes"), {64, 9, 1}); }, 0) == "memory");
     auto session = [&] {
@@ -98,6 +98,7 @@ static void check_small() {
     }();
     // What was moved away has no handle, which is answered.
     check("moved away", registry.types() == 0 && thrown([&] { registry.start(0); }, 0) == "code 5 NoHandle");
+    check("nothing to look in", thrown([&] { registry.find("u8"); }, 0) == "code 5 NoHandle");
     check("incomplete", !session.feed(empty) && !session.feed(std::string_view("\x0cye")));
     check("complete", session.feed(std::string_view("sss")) == std::size_t{1});
     check("its text", session.finish_json() == "\"yes\"");
