@@ -23,6 +23,13 @@ struct node_field {
     uint32_t child;
 };
 
+/* Ends the program where a name was not read: names of more than NAME_ROOM bytes have no room here. */
+static inline void expect_name(const scaleview_answer *answer) {
+    if (answer->code == SCALEVIEW_OK) return;
+    fprintf(stderr, "scaleview: a name was not read: code %u, %llu bytes\n", answer->code, (unsigned long long)answer->length);
+    exit(5);
+}
+
 static inline void put_bytes(struct node_text *text, const void *bytes, size_t length) {
     memcpy(text->at, bytes, length);
     text->at += length;
@@ -118,7 +125,7 @@ static inline bool read_names(struct node_text *text, const scaleview_node *node
             scaleview_arm_field(text->registry, node->type, node->arm, i, field->name, NAME_ROOM, &answer);
         else
             scaleview_part(text->registry, node->type, i, field->name, NAME_ROOM, &answer);
-        if (answer.code != SCALEVIEW_OK) exit(5);
+        expect_name(&answer);
         field->length = (size_t)answer.length;
         are_named = are_named && answer.at == 1;
     }
@@ -162,7 +169,8 @@ static inline void put_fields(struct node_text *text, const scaleview_node *node
 static inline void put_arm(struct node_text *text, const scaleview_node *node) {
     uint8_t name[NAME_ROOM];
     scaleview_answer answer;
-    if (scaleview_arm(text->registry, node->type, node->arm, name, sizeof name, &answer) != SCALEVIEW_OK) exit(5);
+    scaleview_arm(text->registry, node->type, node->arm, name, sizeof name, &answer);
+    expect_name(&answer);
     *text->at++ = '{';
     put_string(text, name, (size_t)answer.length);
     *text->at++ = ':';
