@@ -172,18 +172,14 @@ fn each_refused_growth_ends_the_decoder(rt: HostRuntime) -> Result<(), Fail> {
     let checked = checked(rt.alloc(), NESTED)?;
     let heap = LocalHeap::new(rt.alloc(), 65_536)?;
     'ways: for way in [Way::Bytes, Way::Pieces, Way::Reader] {
-        let mut request = 1;
-        'requests: for _ in 0..1000 {
+        let mut last = 0;
+        'requests: for request in 1..1000 {
+            last = request;
             if !is_requested(&rt, rt.alloc(), &checked, &heap, (way, request))? {
                 break 'requests;
             }
-            request += 1;
         }
-        same(
-            &rt,
-            (request, 3 < request && request < 1000),
-            (request, true),
-        );
+        same(&rt, (last, 3 < last && last < 999), (last, true));
     }
     Ok(())
 }
