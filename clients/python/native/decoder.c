@@ -39,7 +39,8 @@ static PyObject *decoder_new(PyTypeObject *class, PyObject *args, PyObject *keyw
     enter(self->shared, true);
     bool is_torn = self->shared->is_torn;
     if (!is_torn)
-        scaleview_start(self->shared->registry, type, limits.depth, limits.limit, limits.memory, &held->session, &answer);
+        scaleview_start(self->shared->registry, type, limits.depth, limits.limit, budget_of(&limits, limits.limit),
+                        &held->session, &answer);
     leave(self->shared);
     if (!is_torn && answer.code == SCALEVIEW_OK) {
         self->held = held;
@@ -261,8 +262,9 @@ static PyMethodDef methods[] = {
 };
 
 static PyType_Slot slots[] = {
-    {Py_tp_doc, "Decoder(registry, type, *, depth=64, limit=16777216, memory=0)\n--\n\n"
-                "A value whose bytes come in pieces. The arguments are those of Registry.decode.\n\n"
+    {Py_tp_doc, "Decoder(registry, type, *, depth=64, limit=16777216, memory=...)\n--\n\n"
+                "A value whose bytes come in pieces. The arguments are those of Registry.decode. If `memory` isn't\n"
+                "given, it is 64 MiB and 64 times `limit`, since the length isn't known.\n\n"
                 "It keeps what it needs of its registry. Any thread may use it: calls on the decoders of a registry\n"
                 "run one at a time.\n\n"
                 "Raises:\n"

@@ -491,8 +491,8 @@ static PyObject *bytes_of_nodes(struct writer *writer, uint32_t type, const stru
         enter(writer->shared, false);
         bool is_long = writer->count > LONG_NODES || writer->length > LONG_INPUT;
         PyThreadState *state = is_long ? PyEval_SaveThread() : NULL;
-        uint32_t code = scaleview_encode_nodes(writer->shared->registry, type, limits->depth, limits->memory, writer->nodes,
-                                               writer->count, writer->pool, writer->length, scratch.bytes,
+        uint32_t code = scaleview_encode_nodes(writer->shared->registry, type, limits->depth, budget_of(limits, LIMIT),
+                                               writer->nodes, writer->count, writer->pool, writer->length, scratch.bytes,
                                                scratch.byte_room, &answer);
         if (state) PyEval_RestoreThread(state);
         leave(writer->shared);

@@ -93,14 +93,21 @@ int read_type(PyObject *registry, PyObject *object, uint32_t *type) {
     return 0;
 }
 
-/* Reads the limits of a call; NULL stands for the usual one. */
+/* Reads the limits of a call; NULL stands for the usual one, and so does `...` as `memory`. */
 int read_limits(PyObject *depth, PyObject *limit, PyObject *memory, struct limits *limits) {
     uint64_t number = DEPTH;
-    *limits = (struct limits){DEPTH, LIMIT, 0};
+    *limits = (struct limits){DEPTH, memory && memory != Py_Ellipsis, LIMIT, 0};
     if (depth && read_number("depth", depth, 16, &number) < 0) return -1;
     limits->depth = (uint16_t)number;
     if (limit && read_number("limit", limit, 64, &limits->limit) < 0) return -1;
-    return memory ? read_number("memory", memory, 64, &limits->memory) : 0;
+    bool is_number = limits->has_memory && memory != Py_None;
+    return is_number ? read_number("memory", memory, 64, &limits->memory) : 0;
+}
+
+/* Returns the budget of memory for an input of this many bytes, or 0 for none. An input above the greatest limit is rejected
+ * whatever its budget is. */
+uint64_t budget_of(const struct limits *limits, uint64_t length) {
+    return limits->has_memory ? limits->memory : MEMORY + MEMORY_OF_A_BYTE * length;
 }
 
 /* Returns an object that keeps the bytes of a buffer, and where they are. Bytes stay where they are, also a subclass's,

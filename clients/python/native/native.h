@@ -16,6 +16,8 @@
 enum {
     DEPTH = 64,             /* the depth where no other is named */
     LIMIT = 1 << 24,        /* the limit of bytes where no other is named */
+    MEMORY = 1 << 26,       /* the budget of memory where no other is named, for an empty input */
+    MEMORY_OF_A_BYTE = 64,  /* what each byte of the input adds to it */
     LONG_INPUT = 1 << 12,   /* calls on this many bytes release the GIL */
     KEPT_SCRATCH = 1 << 20, /* scratch memory above this many bytes is freed after a call */
 };
@@ -94,6 +96,7 @@ static inline PyObject *new_ref(PyObject *object) {
 /* The depth and the limits of a call. */
 struct limits {
     uint16_t depth;
+    bool has_memory; /* the caller names `memory`, which is 0 for no budget */
     uint64_t limit, memory;
 };
 
@@ -119,6 +122,7 @@ PyObject *reason_of(uint32_t code);
 int read_number(const char *name, PyObject *object, unsigned bits, uint64_t *number);
 int read_type(PyObject *registry, PyObject *object, uint32_t *type);
 int read_limits(PyObject *depth, PyObject *limit, PyObject *memory, struct limits *limits);
+uint64_t budget_of(const struct limits *limits, uint64_t length);
 PyObject *bytes_of(PyObject *data, const uint8_t **bytes, size_t *length);
 
 /* types.c: what a registry says about its types. */

@@ -429,6 +429,36 @@ class Encoding(unittest.TestCase):
                 call()
         self.assertIsInstance(pickle.loads(pickle.dumps(OutOfMemory("x"))), MemoryError)
 
+    def test_a_budget_of_memory_is_set_where_none_is_given(self) -> None:
+        empties = [(None, 0)] * 50_000
+        registry = Registry(
+            make.registry_of(make.members(), make.primitive("u8"), make.composite((None, 1), *empties), make.sequence(2))
+        )
+        data = make.compact(60) + bytes(60)
+
+        def in_pieces(**memory: Any) -> str:
+            decoder = Decoder(registry, 3, limit=len(data), **memory)
+            decoder.feed(data)
+            return decoder.finish_json()
+
+        calls: list[Callable[..., object]] = [
+            lambda **memory: registry.decode(3, data, **memory),
+            lambda **memory: registry.decode_json(3, data, **memory),
+            lambda **memory: registry.decode_many(3, [data], **memory),
+            in_pieces,
+        ]
+        for call in calls:
+            for memory in ({}, {"memory": ...}):
+                with self.assertRaises(OutOfMemory):
+                    call(**memory)
+            for bound in (None, 0):
+                call(memory=bound)
+        # Larger values have larger budgets.
+        flags = Registry(make.registry_of(make.primitive("bool"), make.sequence(0)))
+        data = make.compact(3 << 20) + bytes(3 << 20)
+        self.assertEqual(flags.decode_json(1, data).count("false"), 3 << 20)
+        self.assertEqual(flags.encode(1, [False] * 100, memory=None), make.compact(100) + bytes(100))
+
 
 class Pieces(unittest.TestCase):
     def test_a_decoder_counts(self) -> None:
@@ -608,12 +638,12 @@ class Arguments(unittest.TestCase):
 
     @unittest.skipIf(sys.version_info < (3, 11), "older versions know no signatures of such classes")
     def test_signatures_are_shown(self) -> None:
-        rest = "depth=64, limit=16777216, memory=0)"
+        rest = "depth=64, limit=16777216, memory=Ellipsis)"
         for call, signature in (
             (Registry, "(data, *, metadata=None)"),
             (Registry.decode, f"(self, /, type, data, *, {rest}"),
             (Registry.decode_many, f"(self, /, type, items, *, {rest}"),
-            (Registry.encode, "(self, /, type, value, *, depth=64, memory=0)"),
+            (Registry.encode, "(self, /, type, value, *, depth=64, memory=Ellipsis)"),
             (Decoder, f"(registry, type, *, {rest}"),
             (Decoder.feed, "(self, piece, /)"),
             (Variant, "(name, fields=[])"),
