@@ -251,7 +251,7 @@ static int put_count(struct writer *writer, uint32_t type, PyObject *value) {
     if (is_empties < 0) return -1;
     if (is_empties) {
         PyObject *number = PyObject_GetAttrString(value, "count");
-        int code = number ? read_number("count", number, 32, &count) : -1;
+        int code = number ? read_number("count", number, UINT32_MAX, &count) : -1;
         Py_XDECREF(number);
         if (code < 0) return -1;
     } else {

@@ -15,6 +15,7 @@
 
 enum {
     DEPTH = 64,             /* the depth where no other is named */
+    MOST_DEPTH = 1024,      /* the greatest depth that the library takes */
     LIMIT = 1 << 24,        /* the limit of bytes where no other is named */
     MEMORY = 1 << 26,       /* the budget of memory where no other is named, for an empty input */
     MEMORY_OF_A_BYTE = 64,  /* what each byte of the input adds to it */
@@ -119,7 +120,7 @@ int import_classes(void);
 void raise_answer(const scaleview_answer *answer, uint32_t type, Py_ssize_t item);
 void raise_rejected_node(const scaleview_answer *answer, PyObject *path);
 PyObject *reason_of(uint32_t code);
-int read_number(const char *name, PyObject *object, unsigned bits, uint64_t *number);
+int read_number(const char *name, PyObject *object, uint64_t most, uint64_t *number);
 int read_type(PyObject *registry, PyObject *object, uint32_t *type);
 int read_limits(PyObject *depth, PyObject *limit, PyObject *memory, struct limits *limits);
 uint64_t budget_of(const struct limits *limits, uint64_t length);

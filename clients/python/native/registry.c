@@ -323,7 +323,7 @@ static PyMethodDef methods[] = {
      "    TypeError, ValueError, OverflowError: The value isn't one of the type; the text begins with the path\n"
      "        of the wrong part.\n"
      "    EncodeError: The library rejects a part, such as one that is too deep, with the reason and the path.\n"
-     "    Refused: The type or the depth is rejected.\n"
+     "    Refused: The type is rejected.\n"
      "    OutOfMemory: An allocation failed, or would have exceeded `memory`."},
     {"close", registry_close, METH_NOARGS,
      "close($self, /)\n--\n\n"

@@ -558,8 +558,10 @@ class Arguments(unittest.TestCase):
             for number in (1 << 32, -(1 << 32), -1, 1 << 64, (1 << 64) - 1, 1 << 100_000):
                 with self.assertRaisesRegex(OverflowError, "^type is out of range: "):
                     call(number)
-            numbers = [("depth", 65536), ("depth", 65600), ("depth", -1), ("limit", 1 << 64), ("limit", -1), ("memory", -1)]
-            for name, number in numbers:
+            for number in (-1, 1025, 65536, 65600, 1 << 64):
+                with self.assertRaisesRegex(OverflowError, "^depth is out of range: it has to be in 0 to 1024$"):
+                    call(0, depth=number)
+            for name, number in (("limit", 1 << 64), ("limit", -1), ("memory", -1)):
                 with self.assertRaisesRegex(OverflowError, f"^{name} is out of range: "):
                     call(0, **{name: number})
             wrong: Any
@@ -568,7 +570,7 @@ class Arguments(unittest.TestCase):
                     call(wrong)
                 with self.assertRaises(TypeError):
                     call(0, depth=wrong)
-        for name, number in (("depth", 65600), ("memory", 1 << 64)):
+        for name, number in (("depth", 1025), ("depth", 65600), ("memory", 1 << 64)):
             with self.assertRaisesRegex(OverflowError, f"^{name} is out of range: "):
                 registry.encode(0, 1, **{name: number})
         with self.assertRaisesRegex(OverflowError, "^type is out of range: "):
@@ -576,14 +578,12 @@ class Arguments(unittest.TestCase):
 
     def test_numbers_in_range_reach_the_library(self) -> None:
         registry = Registry(U16)
-        for limits in ({"depth": 65535}, {"depth": 1025}, {"limit": (1 << 64) - 1}):
+        for limit in ((1 << 64) - 1, (1 << 40) + 1):
             for call in (registry.decode, registry.decode_json):
                 with self.assertRaisesRegex(Refused, "^limits: LimitOutOfRange$"):
-                    call(0, b"\x02\x00", **limits)
+                    call(0, b"\x02\x00", limit=limit)
             with self.assertRaisesRegex(Refused, "^limits: LimitOutOfRange$"):
-                Decoder(registry, 0, **limits)
-        with self.assertRaisesRegex(Refused, "^limits: LimitOutOfRange$"):
-            registry.encode(0, 2, depth=1025)
+                Decoder(registry, 0, limit=limit)
         for number in ((1 << 32) - 1, 1):
             calls: list[Callable[[], object]] = [
                 lambda: registry.decode(number, b""),
@@ -741,6 +741,21 @@ class Types(unittest.TestCase):
         with self.assertRaisesRegex(Refused, "^type: UnknownType 9$"):
             Type(registry, 9).kind
 
+    def test_what_is_no_type_is_named(self) -> None:
+        registry = Registry(BYTES)
+        wrong: Any
+        for wrong in ("frame_system::AccountInfo", True, None, 1.0, Type):
+            message = f"a type is its position or a Type, not '{type(wrong).__name__}'"
+            if isinstance(wrong, str):
+                message += "; find() gives the type of a path"
+            for call in (registry.decode, registry.decode_json, registry.decode_many, registry.encode):
+                with self.assertRaises(TypeError) as raised:
+                    call(wrong, b"\x04a")
+                self.assertEqual(str(raised.exception), message)
+            with self.assertRaises(TypeError) as raised:
+                Decoder(registry, wrong)
+            self.assertEqual(str(raised.exception), message)
+
 
 class Stubs(unittest.TestCase):
     def test_stubs_name_what_is_there(self) -> None:
@@ -789,7 +804,7 @@ class Answers(unittest.TestCase):
             lambda: Registry(bytes.fromhex("08000000050300040000020800")),
             lambda: Registry(U16).decode(0, b"\x01"),
             lambda: Registry(U16).decode(1, b"\x01"),
-            lambda: Registry(U16).decode(0, b"\x01", depth=1025),
+            lambda: Registry(U16).decode(0, b"\x01", limit=1 << 41),
             lambda: Registry(U16).decode_many(0, [b"\x01"]),
         ):
             with self.assertRaises(Refused) as context:

@@ -153,6 +153,13 @@ class Vectors(unittest.TestCase):
         self.assertEqual(registry.encode(value.type_id, decoded, depth=value.depth), value.data)
         Vectors.encoded += 1
 
+    def check_depth_out_of_range(self, registry: Registry, value: Value) -> None:
+        for call in (registry.decode, registry.decode_json):
+            with self.assertRaises(OverflowError):
+                call(value.type_id, value.data, depth=value.depth)
+        with self.assertRaises(OverflowError):
+            Decoder(registry, value.type_id, depth=value.depth)
+
     def check_pieces(self, registry: Registry, value: Value, step: int) -> None:
         try:
             decoder = Decoder(registry, value.type_id, depth=value.depth, limit=value.limit)
@@ -194,6 +201,9 @@ class Vectors(unittest.TestCase):
         for row in rows_of("values.tsv"):
             with self.subTest(row[0]):
                 registry, value = Registry.raw(registries[row[1]]), value_of(row)
+                if value.depth > 1024:
+                    self.check_depth_out_of_range(registry, value)
+                    continue
                 self.check_whole(registry, value)
                 for step in 1, 7, 4096:
                     self.check_pieces(registry, value, step)
