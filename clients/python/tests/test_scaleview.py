@@ -842,6 +842,38 @@ class Answers(unittest.TestCase):
         self.assertEqual(printed.stdout, "[25185, 25699]\nvalue: Truncated at 1\n1 Truncated\n")
 
 
+class Program(unittest.TestCase):
+    """decode.py."""
+
+    folder = EXAMPLES / "account"
+
+    def check(self, words: list[str], status: int, out: str, err: str) -> None:
+        command = [sys.executable, str(CLIENT / "decode.py"), *words]
+        ended = subprocess.run(command, stdout=subprocess.PIPE, stderr=subprocess.PIPE, universal_newlines=True)
+        self.assertEqual((ended.returncode, ended.stdout, ended.stderr), (status, out, err))
+
+    def test_a_value_is_read_as_hexadecimal_text(self) -> None:
+        begin = ["decode", str(self.folder / "metadata.scale"), "5"]
+        end = ["--metadata", "--hex"]
+        shown = (self.folder / "memo.json").read_text()
+        self.check([*begin, str(self.folder / "memo.hex"), *end], 0, shown, "")
+        with tempfile.TemporaryDirectory() as folder:
+            path = pathlib.Path(folder) / "value.hex"
+            for text in (b"145343414C45", b"0x145343414c45\r\n", b"145343414c45\n"):
+                path.write_bytes(text)
+                self.check([*begin, str(path), *end, "--pieces", "3"], 0, shown, "")
+            odd = ((b"0x145", "OddHex at 5"), (b"14\n\n", "OddHex at 3"))
+            for text, reason in (*odd, (b"0x14 5", "BadHex at 4"), (b"0X14", "BadHex at 1")):
+                path.write_bytes(text)
+                self.check([*begin, str(path), *end], 1, "", f"scaleview: value: {reason}\n")
+
+    def test_a_missing_file_is_named_in_a_line(self) -> None:
+        there, missing = str(self.folder / "registry.scale"), str(self.folder / "missing.scale")
+        line = f"scaleview: {missing}: No such file or directory\n"
+        for words in (["types", missing], ["decode", missing, "4", there], ["decode", there, "4", missing]):
+            self.check(words, 3, "", line)
+
+
 class Building(unittest.TestCase):
     def run_backend(self, program: str, **variables: str) -> subprocess.CompletedProcess[str]:
         return subprocess.run(
