@@ -222,6 +222,15 @@ static PyObject *get_closed(PyObject *self, void *unused) {
     return PyBool_FromLong(!((struct decoder *)self)->held);
 }
 
+static PyObject *decoder_repr(PyObject *object) {
+    struct decoder *self = (struct decoder *)object;
+    if (!self->held) return PyUnicode_FromFormat("<Decoder of type %u, closed>", self->type);
+    PyObject *taken = get_taken(object, NULL);
+    PyObject *made = taken ? PyUnicode_FromFormat("<Decoder of type %u, %S bytes taken>", self->type, taken) : NULL;
+    Py_XDECREF(taken);
+    return made;
+}
+
 static PyObject *decoder_enter(PyObject *self, PyObject *unused) {
     (void)unused;
     return new_ref(self);
@@ -273,6 +282,7 @@ static PyType_Slot slots[] = {
                 "    ValueError: The registry is closed."},
     {Py_tp_new, decoder_new},
     {Py_tp_dealloc, decoder_dealloc},
+    {Py_tp_repr, decoder_repr},
     {Py_tp_methods, methods},
     {Py_tp_getset, getters},
     {0},

@@ -250,7 +250,7 @@ static int put_count(struct writer *writer, uint32_t type, PyObject *value) {
     int is_empties = PyObject_IsInstance(value, empties_class);
     if (is_empties < 0) return -1;
     if (is_empties) {
-        PyObject *number = PyObject_GetAttrString(value, "count");
+        PyObject *number = PyObject_GetAttrString(value, "_count");
         int code = number ? read_number("count", number, UINT32_MAX, &count) : -1;
         Py_XDECREF(number);
         if (code < 0) return -1;

@@ -289,6 +289,10 @@ PyObject *find_path(struct shared *shared, uint32_t from, PyObject *path) {
     scaleview_answer answer;
     const uint8_t *at = (const uint8_t *)PyBytes_AsString(bytes);
     size_t length = (size_t)PyBytes_Size(bytes);
+    if (length == 0) { /* types without a path aren't found by it */
+        Py_DECREF(bytes);
+        return new_ref(Py_None);
+    }
     enter(shared, false);
     uint32_t code = scaleview_find(shared->registry, from, at, length, &answer);
     leave(shared);

@@ -270,6 +270,15 @@ class Classes(unittest.TestCase):
         exec("match value:\n case Variant('Some', [{'a': found}]): pass", names)
         self.assertEqual(names["found"], 5)
 
+    def test_empties_are_counted_and_compared_as_a_list(self) -> None:
+        most = Empties((1 << 32) - 1)
+        self.assertEqual((Empties(3).count(None), Empties(3).count(0), most.count(None)), (3, 0, (1 << 32) - 1))
+        self.assertEqual((None in most, 5 in most, None in Empties(0)), (True, False, False))
+        self.assertTrue(Empties(3) == [None] * 3 and [None] * 3 == Empties(3) and Empties(0) == [])
+        for other in ([None] * 2, [None, 0, None], (None,) * 3, 3):
+            self.assertNotEqual(Empties(3), other)
+        self.assertNotEqual(most, [None])
+
     def test_empties_are_a_sequence(self) -> None:
         empties = Empties(3)
         self.assertEqual((len(empties), list(empties), empties[-1], empties[1:]), (3, [None] * 3, None, Empties(2)))
@@ -279,7 +288,7 @@ class Classes(unittest.TestCase):
         with self.assertRaises(IndexError):
             empties[3]
         with self.assertRaises(AttributeError):
-            empties.count = 4
+            empties.count = 4  # type: ignore[method-assign, assignment]
         for number in (-1, 1 << 32):
             with self.assertRaises(OverflowError):
                 Empties(number)
@@ -480,6 +489,16 @@ class Pieces(unittest.TestCase):
             with self.assertRaisesRegex(ValueError, "^the decoder is closed$"):
                 call()
         decoder.close()
+
+    def test_a_decoder_is_shown_with_its_type_and_bytes(self) -> None:
+        decoder = Decoder(Registry(BYTES), 1)
+        decoder.feed(bytes.fromhex("0c0102"))
+        self.assertEqual(repr(decoder), "<Decoder of type 1, 3 bytes taken>")
+        decoder.feed(b"\3")
+        decoder.finish()
+        self.assertEqual(repr(decoder), "<Decoder of type 1, 4 bytes taken>")
+        decoder.close()
+        self.assertEqual(repr(decoder), "<Decoder of type 1, closed>")
 
     def test_a_refusal_is_kept(self) -> None:
         registry = Registry(U32)
@@ -718,7 +737,7 @@ class Types(unittest.TestCase):
         options = registry.find_all("Option")
         self.assertGreater(len(options), 3)
         self.assertEqual({found.path for found in options}, {"Option"})
-        self.assertEqual(len(registry.find_all("")), sum(not found.path for found in registry.types))
+        self.assertEqual((registry.find(""), registry.find_all("")), (None, []))
         self.assertEqual((registry.find("frame_system"), registry.find_all("x::Y")), (None, []))
         lines = (EXAMPLES / "runtime" / "types.txt").read_text().splitlines()
         self.assertEqual([str(found) for found in registry.types], lines)

@@ -80,7 +80,7 @@ def shown(value: Any, found: Type) -> Any:
         assert found.size_class == "Empty"
         return None
     if isinstance(value, Empties):
-        return {"count": value.count}
+        return {"count": len(value)}
     if isinstance(value, bytes):
         assert kind in ("sequence", "array") and found.element is not None and types[found.element].kind == "u8"
         return "0x" + value.hex()
@@ -132,8 +132,8 @@ class Vectors(unittest.TestCase):
     def check_types(self, registry: Registry) -> None:
         for found in registry.types:
             self.assertEqual(str(found), f"{found.id} {found.size_class} {found.kind} {json_text(found.path)}")
-            self.assertIn(found, registry.find_all(found.path))
-            self.assertEqual(registry.find_all(found.path)[0], registry.find(found.path))
+            self.assertEqual(found in registry.find_all(found.path), found.path != "")
+            self.assertEqual(registry.find_all(found.path)[:1], [registry.find(found.path)] if found.path else [])
             for field in (*found.fields, *(field for arm in found.variants for field in arm.fields)):
                 self.assertLess(field.type, len(registry.types))
 

@@ -211,7 +211,7 @@ class Registry(_native.Registry):
         return Types(self)
 
     def find(self, path: str) -> Optional[Type]:
-        """Returns the first type with this path, such as "frame_system::AccountInfo", or None."""
+        """Returns the first type with this path, such as "frame_system::AccountInfo", or None, as for ""."""
         found = self._find(path)
         return None if found is None else Type(self, found)
 
