@@ -9,6 +9,7 @@ struct decoder {
     uint16_t depth;
     bool is_finished;
     uint64_t taken; /* the number of bytes taken when it was finished */
+    uint64_t memory; /* the budget, or 0 for none */
 };
 
 static PyTypeObject *decoder_class;
@@ -29,6 +30,7 @@ static PyObject *decoder_new(PyTypeObject *class, PyObject *args, PyObject *keyw
     if (!self) return NULL;
     self->type = type;
     self->depth = limits.depth;
+    self->memory = limits.memory = budget_of(&limits, limits.limit);
     self->shared = shared_of(registry);
     struct held *held = self->shared ? calloc(1, sizeof *held) : NULL;
     if (!held) {
@@ -39,8 +41,7 @@ static PyObject *decoder_new(PyTypeObject *class, PyObject *args, PyObject *keyw
     enter(self->shared, true);
     bool is_torn = self->shared->is_torn;
     if (!is_torn)
-        scaleview_start(self->shared->registry, type, limits.depth, limits.limit, budget_of(&limits, limits.limit),
-                        &held->session, &answer);
+        scaleview_start(self->shared->registry, type, limits.depth, limits.limit, limits.memory, &held->session, &answer);
     leave(self->shared);
     if (!is_torn && answer.code == SCALEVIEW_OK) {
         self->held = held;
@@ -51,7 +52,7 @@ static PyObject *decoder_new(PyTypeObject *class, PyObject *args, PyObject *keyw
     if (is_torn)
         PyErr_SetString(PyExc_RuntimeError, torn);
     else
-        raise_answer(&answer, type, -1);
+        raise_answer(&answer, type, -1, limits.memory);
     return NULL;
 }
 
@@ -105,7 +106,7 @@ static PyObject *decoder_feed(PyObject *object, PyObject *piece) {
     if (!session) return NULL;
     if (answer.code == SCALEVIEW_MORE) return new_ref(Py_None);
     if (answer.code == SCALEVIEW_OK) return PyLong_FromUnsignedLongLong(answer.length);
-    raise_answer(&answer, self->type, -1);
+    raise_answer(&answer, self->type, -1, self->memory);
     return NULL;
 }
 
@@ -141,7 +142,7 @@ static PyObject *decoder_finish(PyObject *object, PyObject *unused) {
         if (answer.code == SCALEVIEW_OK)
             value = value_of(self->shared, scratch.nodes, (size_t)answer.length, scratch.bytes);
         else
-            raise_answer(&answer, self->type, -1);
+            raise_answer(&answer, self->type, -1, self->memory);
         break;
     }
     give_scratch(self->shared, scratch);
@@ -183,7 +184,7 @@ static PyObject *decoder_finish_json(PyObject *object, PyObject *unused) {
         if (code == SCALEVIEW_OK)
             made = PyUnicode_FromStringAndSize((const char *)scratch.bytes, (Py_ssize_t)answer.length);
         else
-            raise_answer(&answer, self->type, -1);
+            raise_answer(&answer, self->type, -1, self->memory);
         break;
     }
     give_scratch(self->shared, scratch);

@@ -484,6 +484,7 @@ static void raise_rejected(struct writer *writer, const scaleview_answer *answer
 static PyObject *bytes_of_nodes(struct writer *writer, uint32_t type, const struct limits *limits) {
     scaleview_answer answer;
     size_t room = writer->length + MOST_BYTES_OF_A_NODE * writer->count;
+    uint64_t memory = budget_of(limits, LIMIT);
     struct scratch scratch = take_scratch(writer->shared);
     PyObject *made = NULL;
     for (;;) {
@@ -491,8 +492,8 @@ static PyObject *bytes_of_nodes(struct writer *writer, uint32_t type, const stru
         enter(writer->shared, false);
         bool is_long = writer->count > LONG_NODES || writer->length > LONG_INPUT;
         PyThreadState *state = is_long ? PyEval_SaveThread() : NULL;
-        uint32_t code = scaleview_encode_nodes(writer->shared->registry, type, limits->depth, budget_of(limits, LIMIT),
-                                               writer->nodes, writer->count, writer->pool, writer->length, scratch.bytes,
+        uint32_t code = scaleview_encode_nodes(writer->shared->registry, type, limits->depth, memory, writer->nodes,
+                                               writer->count, writer->pool, writer->length, scratch.bytes,
                                                scratch.byte_room, &answer);
         if (state) PyEval_RestoreThread(state);
         leave(writer->shared);
@@ -504,7 +505,7 @@ static PyObject *bytes_of_nodes(struct writer *writer, uint32_t type, const stru
         } else if (code > 400) {
             raise_rejected(writer, &answer);
         } else {
-            raise_answer(&answer, type, -1);
+            raise_answer(&answer, type, -1, memory);
         }
         break;
     }

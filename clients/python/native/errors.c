@@ -39,11 +39,20 @@ static const char *part_of(uint32_t code) {
     return code >= 300 ? "value" : "type";
 }
 
-/* Raises what a call answered: on this type, and on this item of several if it isn't negative. */
-void raise_answer(const scaleview_answer *answer, uint32_t type, Py_ssize_t item) {
+/* Raises that a call with this budget, or none if it is 0, got no memory. The library doesn't say which of the two it was. */
+static void raise_out_of_memory(uint64_t memory) {
+    if (memory == 0)
+        PyErr_SetString(out_of_memory_class, "an allocation failed");
+    else
+        PyErr_Format(out_of_memory_class, "the budget of %llu bytes of memory is reached, or an allocation failed",
+                     (unsigned long long)memory);
+}
+
+/* Raises what a call with this budget of memory answered: on this type, and on this item of several if it isn't negative. */
+void raise_answer(const scaleview_answer *answer, uint32_t type, Py_ssize_t item, uint64_t memory) {
     uint32_t code = answer->code;
     if (code == SCALEVIEW_MEMORY) {
-        PyErr_SetString(out_of_memory_class, "an allocation failed, or would have exceeded `memory`");
+        raise_out_of_memory(memory);
         return;
     }
     const char *part = part_of(code);

@@ -117,7 +117,7 @@ uint32_t with_stack(uint16_t depth, uint32_t (*call)(void *), void *context);
 /* errors.c: exceptions, numbers and buffers. */
 extern PyObject *refused_class, *encode_error_class, *out_of_memory_class, *empties_class;
 int import_classes(void);
-void raise_answer(const scaleview_answer *answer, uint32_t type, Py_ssize_t item);
+void raise_answer(const scaleview_answer *answer, uint32_t type, Py_ssize_t item, uint64_t memory);
 void raise_rejected_node(const scaleview_answer *answer, PyObject *path);
 PyObject *reason_of(uint32_t code);
 int read_number(const char *name, PyObject *object, uint64_t most, uint64_t *number);

@@ -107,7 +107,7 @@ static PyObject *decode_one(const struct call *call, PyObject *data, Py_ssize_t 
         } else if (code == SCALEVIEW_OK) {
             value = value_of(shared, scratch.nodes, (size_t)answer.length, scratch.bytes);
         } else {
-            raise_answer(&answer, call->type, item);
+            raise_answer(&answer, call->type, item, memory);
         }
         break;
     }
@@ -153,7 +153,8 @@ static uint32_t decode_text(void *context) {
     const struct text_call *text = context;
     const struct limits *limits = &text->call->limits;
     return scaleview_decode(text->call->shared->registry, text->call->type, limits->depth, limits->limit,
-                            budget_of(limits, text->length), text->bytes, text->length, text->scratch->bytes, text->scratch->byte_room, text->answer);
+                            budget_of(limits, text->length), text->bytes, text->length, text->scratch->bytes,
+                            text->scratch->byte_room, text->answer);
 }
 
 static PyObject *registry_decode_json(PyObject *self, PyObject *args, PyObject *keywords) {
@@ -178,7 +179,7 @@ static PyObject *registry_decode_json(PyObject *self, PyObject *args, PyObject *
         if (code == SCALEVIEW_OK)
             made = PyUnicode_FromStringAndSize((const char *)scratch.bytes, (Py_ssize_t)answer.length);
         else
-            raise_answer(&answer, call.type, -1);
+            raise_answer(&answer, call.type, -1, budget_of(&call.limits, length));
         break;
     }
     give_scratch(call.shared, scratch);

@@ -433,10 +433,26 @@ class Encoding(unittest.TestCase):
             decoder.finish,
             decoder.finish_json,
         ]
+        message = "^the budget of 1000 bytes of memory is reached, or an allocation failed$"
         for call in calls:
-            with self.assertRaisesRegex(OutOfMemory, "memory"):
+            with self.assertRaisesRegex(OutOfMemory, message):
                 call()
         self.assertIsInstance(pickle.loads(pickle.dumps(OutOfMemory("x"))), MemoryError)
+
+    @unittest.skipUnless(sys.platform == "linux", "the system may not keep the limit of memory")
+    def test_without_a_budget_the_system_refuses_memory(self) -> None:
+        program = (
+            "import registries as make, resource, scaleview\n"
+            "registry = scaleview.Registry(make.registry_of(make.members(), make.primitive('u8'),\n"
+            "    make.composite((None, 1), *[(None, 0)] * 50_000), make.sequence(2)))\n"
+            "resource.setrlimit(resource.RLIMIT_AS, (1 << 29, 1 << 29))\n"
+            "try: registry.decode(3, make.compact(1000) + bytes(1000), memory=None)\n"
+            "except scaleview.OutOfMemory as error: print(error)\n"
+        )
+        command = [sys.executable, "-c", program]
+        folder = str(pathlib.Path(__file__).parent)
+        ended = subprocess.run(command, cwd=folder, stdout=subprocess.PIPE, universal_newlines=True)
+        self.assertEqual(ended.stdout, "an allocation failed\n")
 
     def test_a_budget_of_memory_is_set_where_none_is_given(self) -> None:
         empties = [(None, 0)] * 50_000
@@ -458,7 +474,8 @@ class Encoding(unittest.TestCase):
         ]
         for call in calls:
             for memory in ({}, {"memory": ...}):
-                with self.assertRaises(OutOfMemory):
+                budget = (64 << 20) + 64 * len(data)
+                with self.assertRaisesRegex(OutOfMemory, f"^the budget of {budget} bytes of memory is reached"):
                     call(**memory)
             for bound in (None, 0):
                 call(memory=bound)

@@ -68,7 +68,7 @@ class EncodeError(Refused):
 
 
 class OutOfMemory(MemoryError):
-    """An allocation of the library failed, or would have exceeded the bound `memory`."""
+    """An allocation of the library failed, or would have exceeded the bound `memory`, which the text then names."""
 
 
 class Empties(Sequence[None]):
