@@ -40,7 +40,7 @@ static const char *part_of(uint32_t code) {
 }
 
 /* Raises that a call with this budget, or none if it is 0, got no memory. The library doesn't say which of the two it was. */
-static void raise_out_of_memory(uint64_t memory) {
+void raise_out_of_memory(uint64_t memory) {
     if (memory == 0)
         PyErr_SetString(out_of_memory_class, "an allocation failed");
     else

@@ -119,6 +119,7 @@ extern PyObject *refused_class, *encode_error_class, *out_of_memory_class, *empt
 int import_classes(void);
 void raise_answer(const scaleview_answer *answer, uint32_t type, Py_ssize_t item, uint64_t memory);
 void raise_rejected_node(const scaleview_answer *answer, PyObject *path);
+void raise_out_of_memory(uint64_t memory);
 PyObject *reason_of(uint32_t code);
 int read_number(const char *name, PyObject *object, uint64_t most, uint64_t *number);
 int read_type(PyObject *registry, PyObject *object, uint32_t *type);

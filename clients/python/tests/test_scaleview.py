@@ -20,7 +20,7 @@ import time
 import unittest
 import zipfile
 from multiprocessing.reduction import ForkingPickler
-from typing import Any, Callable, Iterator
+from typing import Any, Callable, Iterator, Sequence
 
 import registries as make
 import scaleview
@@ -438,6 +438,37 @@ class Encoding(unittest.TestCase):
             with self.assertRaisesRegex(OutOfMemory, message):
                 call()
         self.assertIsInstance(pickle.loads(pickle.dumps(OutOfMemory("x"))), MemoryError)
+
+    def test_a_sequence_is_not_copied_beyond_the_budget(self) -> None:
+        registry = Registry(make.registry_of(make.primitive("u16"), make.sequence(0), make.members(), make.sequence(2)))
+        taken: list[int] = []
+
+        class Long(Sequence[Any]):
+            def __len__(self) -> int:
+                return 10**7
+
+            def __getitem__(self, index: Any) -> Any:
+                taken.append(index)
+                return index
+
+        for value in (range(10**7), Long()):
+            for type_id in (1, 3):
+                with self.assertRaisesRegex(OutOfMemory, "^the budget of 1000 bytes"):
+                    registry.encode(type_id, value, memory=1000)
+        self.assertEqual(taken, [])
+        with self.assertRaisesRegex(OutOfMemory, "^the budget of"):
+            registry.encode(1, range(10**9))
+        self.assertEqual(len(registry.encode(1, range(1000), memory=1 << 20)), 2002)
+
+    def test_a_list_that_occurs_often_is_not_written_beyond_the_budget(self) -> None:
+        registry = Registry(make.registry_of(make.primitive("u16"), *map(make.sequence, range(4)), make.primitive("str")))
+        value: list[Any] = [1] * 1000
+        for _ in range(3):
+            value = [value] * 1000
+        with self.assertRaisesRegex(OutOfMemory, "^the budget of 1048576 bytes"):
+            registry.encode(4, value, memory=1 << 20)
+        with self.assertRaisesRegex(OutOfMemory, "^the budget of 1000 bytes"):
+            registry.encode(5, "a" * 1001, memory=1000)
 
     @unittest.skipUnless(sys.platform == "linux", "the system may not keep the limit of memory")
     def test_without_a_budget_the_system_refuses_memory(self) -> None:
