@@ -288,7 +288,7 @@ class Classes(unittest.TestCase):
         with self.assertRaises(IndexError):
             empties[3]
         with self.assertRaises(AttributeError):
-            empties.count = 4  # type: ignore[method-assign, assignment]
+            setattr(empties, "count", 4)
         for number in (-1, 1 << 32):
             with self.assertRaises(OverflowError):
                 Empties(number)
@@ -837,6 +837,23 @@ class Stubs(unittest.TestCase):
             self.assertEqual({name for name in there if not name.startswith("__")} - stubbed, set())
         for name in scaleview.__all__:
             self.assertTrue(getattr(scaleview, name))
+
+    def test_stubs_tell_which_classes_are_final(self) -> None:
+        stub = ast.parse((pathlib.Path(scaleview.__file__).parent / "_native.pyi").read_text())
+        for node in (part for part in stub.body if isinstance(part, ast.ClassDef)):
+            words = [word.id for word in node.decorator_list if isinstance(word, ast.Name)]
+            try:
+                type("Derived", (getattr(scaleview._native, node.name),), {})
+                self.assertEqual(words, [])
+            except TypeError:
+                self.assertEqual(words, ["final"])
+
+    def test_annotations_name_what_is_taken(self) -> None:
+        stub = (pathlib.Path(scaleview.__file__).parent / "_native.pyi").read_text()
+        self.assertIn("from typing_extensions import Buffer", stub)
+        registry = Registry(BYTES)
+        self.assertIn("SupportsIndex", type(registry.types).__getitem__.__annotations__["index"])
+        self.assertEqual(registry.types[registry.types[1]], registry.types[1])
 
 
 class Answers(unittest.TestCase):

@@ -1,7 +1,9 @@
 from types import TracebackType
-from typing import Any, Dict, Iterable, List, Optional, Tuple, Type as Class, TypeVar, Union
+from typing import Any, Dict, Iterable, List, Optional, Tuple, Type as Class, TypeVar, Union, final
 
-from . import Buffer, Type
+from typing_extensions import Buffer
+
+from . import Type
 
 DEPTH: int
 LIMIT: int
@@ -10,6 +12,7 @@ LIBRARY_VERSION: int
 def reason(code: int, /) -> str: ...
 def _after_fork() -> None: ...
 
+@final
 class Variant:
     __match_args__ = ("name", "fields")
     __hash__: None  # type: ignore[assignment]
@@ -54,6 +57,7 @@ class Registry:
         self, kind: Optional[Class[BaseException]], error: Optional[BaseException], trace: Optional[TracebackType]
     ) -> None: ...
 
+@final
 class Decoder:
     def __new__(
         cls, registry: Registry, type: Union[int, Type], *, depth: int = ..., limit: int = ..., memory: Optional[int] = ...
@@ -66,6 +70,7 @@ class Decoder:
     def text_bytes(self) -> int: ...
     @property
     def closed(self) -> bool: ...
+    def __repr__(self) -> str: ...
     def feed(self, piece: Buffer, /) -> Optional[int]: ...
     def finish(self) -> Any: ...
     def finish_json(self) -> str: ...
