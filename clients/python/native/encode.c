@@ -70,8 +70,8 @@ static int expected(const struct writer *writer, const char *what, PyObject *val
     return code;
 }
 
-/* Raises OutOfMemory if the budget is too small for so many more nodes and bytes. The library needs more for them than is
- * counted here, so no value that it takes is rejected, and one that it would not take is never held in full. */
+/* Raises OutOfMemory if the budget is too small for this many more nodes and bytes. The library needs more for them than is
+ * counted here, so only values are rejected that it would reject too. */
 static int check_budget(const struct writer *writer, size_t nodes, size_t bytes) {
     uint64_t least = LEAST_MEMORY_OF_A_NODE * ((uint64_t)writer->count + nodes) + writer->length + bytes;
     if (writer->memory == 0 || least <= writer->memory) return 0;
@@ -237,7 +237,7 @@ static int put_byte_run(struct writer *writer, uint32_t type, const struct type_
     return code;
 }
 
-/* Copies a sequence's items to a list if the budget lets it. */
+/* Copies a sequence's items to a list, unless as many nodes would exceed the budget. */
 static PyObject *copied_items(const struct writer *writer, PyObject *value) {
     Py_ssize_t length = PySequence_Size(value);
     return length < 0 || check_budget(writer, (size_t)length, 0) < 0 ? NULL : PySequence_List(value);
