@@ -1,12 +1,14 @@
 """Decodes a value as the command does, whole or in pieces, or lists the types of a registry.
 
 python3 decode.py types FILE [--metadata]
-python3 decode.py decode FILE ID VALUEFILE [--metadata] [--depth D] [--pieces N]
+python3 decode.py decode FILE ID VALUEFILE [--metadata] [--hex] [--depth D] [--pieces N]
 """
 
 import argparse
 import pathlib
+import re
 import sys
+from typing import NoReturn
 
 from scaleview import DEPTH, Decoder, Refused, Registry
 
@@ -21,9 +23,34 @@ def parse() -> argparse.Namespace:
         command.add_argument("--metadata", action="store_true")
     decode.add_argument("id", type=int)
     decode.add_argument("value", type=pathlib.Path)
+    decode.add_argument("--hex", action="store_true")
     decode.add_argument("--depth", type=int, default=DEPTH)
     decode.add_argument("--pieces", type=int)
     return parser.parse_args()
+
+
+def fail(line: object, status: int) -> NoReturn:
+    print(f"scaleview: {line}", file=sys.stderr)
+    sys.exit(status)
+
+
+def read(path: pathlib.Path) -> bytes:
+    try:
+        return path.read_bytes()
+    except OSError as error:
+        fail(f"{path}: {error.strerror}", 3)
+
+
+def bytes_of_hex(text: bytes) -> bytes:
+    """Returns the bytes of hexadecimal text, where 0x in front and a line end are optional."""
+    start = 2 if text.startswith(b"0x") else 0
+    digits = re.sub(rb"\r?\n\Z", b"", text[start:])
+    if len(digits) % 2:
+        fail(f"value: OddHex at {start + len(digits)}", 1)
+    wrong = re.search(rb"[^0-9A-Fa-f]", digits)
+    if wrong:
+        fail(f"value: BadHex at {start + wrong.start()}", 1)
+    return bytes.fromhex(digits.decode())
 
 
 def decode_in_pieces(registry: Registry, type_id: int, value: bytes, depth: int, step: int) -> str:
@@ -32,28 +59,35 @@ def decode_in_pieces(registry: Registry, type_id: int, value: bytes, depth: int,
         used = decoder.feed(value[at : at + step])
         if used is not None:
             if at + used < len(value):
-                sys.exit(f"scaleview: value: TrailingBytes at {at + used}")
+                fail(f"value: TrailingBytes at {at + used}", 1)
             break
     return decoder.finish_json()
 
 
+def run(words: argparse.Namespace) -> None:
+    data = read(words.file)
+    value = b"" if words.command == "types" else read(words.value)
+    registry = Registry(data, metadata=words.metadata)
+    if words.command == "types":
+        print("".join(f"{found}\n" for found in registry.types), end="")
+        return
+    if words.hex:
+        value = bytes_of_hex(value)
+    if words.pieces:
+        print(decode_in_pieces(registry, words.id, value, words.depth, words.pieces))
+    else:
+        print(registry.decode_json(words.id, value, depth=words.depth))
+
+
 def main() -> None:
-    words = parse()
     try:
-        registry = Registry(words.file.read_bytes(), metadata=words.metadata)
-        if words.command == "types":
-            print("".join(f"{found}\n" for found in registry.types), end="")
-            return
-        value = words.value.read_bytes()
-        if words.pieces:
-            print(decode_in_pieces(registry, words.id, value, words.depth, words.pieces))
-        else:
-            print(registry.decode_json(words.id, value, depth=words.depth))
+        run(parse())
     except Refused as refused:
-        sys.exit(f"scaleview: {refused}")
+        fail(refused, 1)
     except OverflowError as error:
-        print(f"scaleview: {error}", file=sys.stderr)
-        sys.exit(2)
+        fail(error, 2)
+    except MemoryError as error:
+        fail(str(error) or "an allocation failed", 4)
 
 
 if __name__ == "__main__":

@@ -9,6 +9,7 @@ struct decoder {
     uint16_t depth;
     bool is_finished;
     uint64_t taken; /* the number of bytes taken when it was finished */
+    uint64_t memory; /* the budget, or 0 for none */
 };
 
 static PyTypeObject *decoder_class;
@@ -29,6 +30,7 @@ static PyObject *decoder_new(PyTypeObject *class, PyObject *args, PyObject *keyw
     if (!self) return NULL;
     self->type = type;
     self->depth = limits.depth;
+    self->memory = limits.memory = budget_of(&limits, limits.limit);
     self->shared = shared_of(registry);
     struct held *held = self->shared ? calloc(1, sizeof *held) : NULL;
     if (!held) {
@@ -50,7 +52,7 @@ static PyObject *decoder_new(PyTypeObject *class, PyObject *args, PyObject *keyw
     if (is_torn)
         PyErr_SetString(PyExc_RuntimeError, torn);
     else
-        raise_answer(&answer, type, -1);
+        raise_answer(&answer, type, -1, limits.memory);
     return NULL;
 }
 
@@ -104,7 +106,7 @@ static PyObject *decoder_feed(PyObject *object, PyObject *piece) {
     if (!session) return NULL;
     if (answer.code == SCALEVIEW_MORE) return new_ref(Py_None);
     if (answer.code == SCALEVIEW_OK) return PyLong_FromUnsignedLongLong(answer.length);
-    raise_answer(&answer, self->type, -1);
+    raise_answer(&answer, self->type, -1, self->memory);
     return NULL;
 }
 
@@ -140,7 +142,7 @@ static PyObject *decoder_finish(PyObject *object, PyObject *unused) {
         if (answer.code == SCALEVIEW_OK)
             value = value_of(self->shared, scratch.nodes, (size_t)answer.length, scratch.bytes);
         else
-            raise_answer(&answer, self->type, -1);
+            raise_answer(&answer, self->type, -1, self->memory);
         break;
     }
     give_scratch(self->shared, scratch);
@@ -182,7 +184,7 @@ static PyObject *decoder_finish_json(PyObject *object, PyObject *unused) {
         if (code == SCALEVIEW_OK)
             made = PyUnicode_FromStringAndSize((const char *)scratch.bytes, (Py_ssize_t)answer.length);
         else
-            raise_answer(&answer, self->type, -1);
+            raise_answer(&answer, self->type, -1, self->memory);
         break;
     }
     give_scratch(self->shared, scratch);
@@ -219,6 +221,15 @@ static PyObject *get_text_bytes(PyObject *self, void *unused) {
 static PyObject *get_closed(PyObject *self, void *unused) {
     (void)unused;
     return PyBool_FromLong(!((struct decoder *)self)->held);
+}
+
+static PyObject *decoder_repr(PyObject *object) {
+    struct decoder *self = (struct decoder *)object;
+    if (!self->held) return PyUnicode_FromFormat("<Decoder of type %u, closed>", self->type);
+    PyObject *taken = get_taken(object, NULL);
+    PyObject *made = taken ? PyUnicode_FromFormat("<Decoder of type %u, %S bytes taken>", self->type, taken) : NULL;
+    Py_XDECREF(taken);
+    return made;
 }
 
 static PyObject *decoder_enter(PyObject *self, PyObject *unused) {
@@ -261,8 +272,9 @@ static PyMethodDef methods[] = {
 };
 
 static PyType_Slot slots[] = {
-    {Py_tp_doc, "Decoder(registry, type, *, depth=64, limit=16777216, memory=0)\n--\n\n"
-                "A value whose bytes come in pieces. The arguments are those of Registry.decode.\n\n"
+    {Py_tp_doc, "Decoder(registry, type, *, depth=64, limit=16777216, memory=...)\n--\n\n"
+                "A value whose bytes come in pieces. The arguments are those of Registry.decode. If `memory` isn't\n"
+                "given, it is 64 MiB and 64 times `limit`, since the length isn't known.\n\n"
                 "It keeps what it needs of its registry. Any thread may use it: calls on the decoders of a registry\n"
                 "run one at a time.\n\n"
                 "Raises:\n"
@@ -271,6 +283,7 @@ static PyType_Slot slots[] = {
                 "    ValueError: The registry is closed."},
     {Py_tp_new, decoder_new},
     {Py_tp_dealloc, decoder_dealloc},
+    {Py_tp_repr, decoder_repr},
     {Py_tp_methods, methods},
     {Py_tp_getset, getters},
     {0},

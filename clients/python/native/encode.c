@@ -2,7 +2,7 @@
 #include "native.h"
 #include <stdarg.h>
 
-enum { FEW = 24, MOST_BYTES_OF_A_NODE = 17, LONG_NODES = 1 << 8 };
+enum { FEW = 24, LEAST_MEMORY_OF_A_NODE = 24, MOST_BYTES_OF_A_NODE = 17, LONG_NODES = 1 << 8 };
 
 /* A value whose children are being read. */
 struct level {
@@ -18,6 +18,7 @@ struct writer {
     uint8_t *pool;
     PyObject *arm; /* the name of the arm whose fields are looked at, borrowed, or NULL */
     size_t count, node_room, length, pool_room, depth, level_room, most_depth;
+    uint64_t memory; /* the budget, or 0 for none */
     bool is_cut; /* a node is too deep, which the library is left to say */
     struct level *levels, few[FEW];
 };
@@ -69,7 +70,17 @@ static int expected(const struct writer *writer, const char *what, PyObject *val
     return code;
 }
 
+/* Raises OutOfMemory if the budget is too small for this many more nodes and bytes. The library needs more for them than is
+ * counted here, so only values are rejected that it would reject too. */
+static int check_budget(const struct writer *writer, size_t nodes, size_t bytes) {
+    uint64_t least = LEAST_MEMORY_OF_A_NODE * ((uint64_t)writer->count + nodes) + writer->length + bytes;
+    if (writer->memory == 0 || least <= writer->memory) return 0;
+    raise_out_of_memory(writer->memory);
+    return -1;
+}
+
 static int add_node(struct writer *writer, scaleview_node node) {
+    if (check_budget(writer, 1, 0) < 0) return -1;
     if (writer->count == writer->node_room) {
         size_t room = 2 * writer->node_room + 64;
         scaleview_node *nodes = realloc(writer->nodes, room * sizeof *nodes);
@@ -86,6 +97,7 @@ static int add_node(struct writer *writer, scaleview_node node) {
 
 /* Adds a node whose bytes stand in the pool. */
 static int add_bytes(struct writer *writer, uint32_t kind, uint32_t type, const void *bytes, size_t length) {
+    if (check_budget(writer, 1, length) < 0) return -1;
     if (writer->pool_room - writer->length < length) {
         size_t room = 2 * writer->pool_room + length + 64;
         uint8_t *pool = realloc(writer->pool, room);
@@ -225,13 +237,19 @@ static int put_byte_run(struct writer *writer, uint32_t type, const struct type_
     return code;
 }
 
+/* Copies a sequence's items to a list, unless as many nodes would exceed the budget. */
+static PyObject *copied_items(const struct writer *writer, PyObject *value) {
+    Py_ssize_t length = PySequence_Size(value);
+    return length < 0 || check_budget(writer, (size_t)length, 0) < 0 ? NULL : PySequence_List(value);
+}
+
 /* Returns a list or a tuple of a value's items, or NULL. */
 static PyObject *items_of(const struct writer *writer, PyObject *value, Py_ssize_t *length) {
     PyObject *items;
     if (PyList_Check(value) || PyTuple_Check(value)) {
         items = new_ref(value);
     } else if (PySequence_Check(value) && !PyUnicode_Check(value) && !PyBytes_Check(value) && !PyByteArray_Check(value)) {
-        items = PySequence_List(value);
+        items = copied_items(writer, value);
     } else {
         expected(writer, "a list or a tuple", value);
         return NULL;
@@ -250,8 +268,8 @@ static int put_count(struct writer *writer, uint32_t type, PyObject *value) {
     int is_empties = PyObject_IsInstance(value, empties_class);
     if (is_empties < 0) return -1;
     if (is_empties) {
-        PyObject *number = PyObject_GetAttrString(value, "count");
-        int code = number ? read_number("count", number, 32, &count) : -1;
+        PyObject *number = PyObject_GetAttrString(value, "_count");
+        int code = number ? read_number("count", number, UINT32_MAX, &count) : -1;
         Py_XDECREF(number);
         if (code < 0) return -1;
     } else {
@@ -481,7 +499,7 @@ static void raise_rejected(struct writer *writer, const scaleview_answer *answer
     Py_XDECREF(path);
 }
 
-static PyObject *bytes_of_nodes(struct writer *writer, uint32_t type, const struct limits *limits) {
+static PyObject *bytes_of_nodes(struct writer *writer, uint32_t type, uint16_t depth) {
     scaleview_answer answer;
     size_t room = writer->length + MOST_BYTES_OF_A_NODE * writer->count;
     struct scratch scratch = take_scratch(writer->shared);
@@ -491,7 +509,7 @@ static PyObject *bytes_of_nodes(struct writer *writer, uint32_t type, const stru
         enter(writer->shared, false);
         bool is_long = writer->count > LONG_NODES || writer->length > LONG_INPUT;
         PyThreadState *state = is_long ? PyEval_SaveThread() : NULL;
-        uint32_t code = scaleview_encode_nodes(writer->shared->registry, type, limits->depth, limits->memory, writer->nodes,
+        uint32_t code = scaleview_encode_nodes(writer->shared->registry, type, depth, writer->memory, writer->nodes,
                                                writer->count, writer->pool, writer->length, scratch.bytes,
                                                scratch.byte_room, &answer);
         if (state) PyEval_RestoreThread(state);
@@ -504,7 +522,7 @@ static PyObject *bytes_of_nodes(struct writer *writer, uint32_t type, const stru
         } else if (code > 400) {
             raise_rejected(writer, &answer);
         } else {
-            raise_answer(&answer, type, -1);
+            raise_answer(&answer, type, -1, writer->memory);
         }
         break;
     }
@@ -521,7 +539,8 @@ PyObject *encode_value(struct shared *shared, uint32_t type, PyObject *value, co
     writer.levels = writer.few;
     writer.level_room = FEW;
     writer.most_depth = limits->depth;
-    if (put_all(&writer, type, value) == 0) made = bytes_of_nodes(&writer, type, limits);
+    writer.memory = budget_of(limits, LIMIT);
+    if (put_all(&writer, type, value) == 0) made = bytes_of_nodes(&writer, type, limits->depth);
     drop_levels(&writer);
     if (writer.levels != writer.few) free(writer.levels);
     free(writer.nodes);

@@ -39,11 +39,20 @@ static const char *part_of(uint32_t code) {
     return code >= 300 ? "value" : "type";
 }
 
-/* Raises what a call answered: on this type, and on this item of several if it isn't negative. */
-void raise_answer(const scaleview_answer *answer, uint32_t type, Py_ssize_t item) {
+/* Raises that a call with this budget, or none if it is 0, got no memory. The library doesn't say which of the two it was. */
+void raise_out_of_memory(uint64_t memory) {
+    if (memory == 0)
+        PyErr_SetString(out_of_memory_class, "an allocation failed");
+    else
+        PyErr_Format(out_of_memory_class, "the budget of %llu bytes of memory is reached, or an allocation failed",
+                     (unsigned long long)memory);
+}
+
+/* Raises what a call with this budget of memory answered: on this type, and on this item of several if it isn't negative. */
+void raise_answer(const scaleview_answer *answer, uint32_t type, Py_ssize_t item, uint64_t memory) {
     uint32_t code = answer->code;
     if (code == SCALEVIEW_MEMORY) {
-        PyErr_SetString(out_of_memory_class, "an allocation failed, or would have exceeded `memory`");
+        raise_out_of_memory(memory);
         return;
     }
     const char *part = part_of(code);
@@ -61,23 +70,33 @@ void raise_rejected_node(const scaleview_answer *answer, PyObject *path) {
                                                 PyLong_FromUnsignedLongLong(answer->at)));
 }
 
-/* Reads a number of at most so many bits. */
-int read_number(const char *name, PyObject *object, unsigned bits, uint64_t *number) {
+/* Reads a number from 0 to the greatest. */
+int read_number(const char *name, PyObject *object, uint64_t most, uint64_t *number) {
     PyObject *index = PyNumber_Index(object);
     if (!index) return -1;
     *number = PyLong_AsUnsignedLongLong(index);
     Py_DECREF(index);
     bool has_failed = *number == UINT64_MAX && PyErr_Occurred();
     if (has_failed && !PyErr_ExceptionMatches(PyExc_OverflowError)) return -1;
-    if (!has_failed && (bits == 64 || *number >> bits == 0)) return 0;
+    if (!has_failed && *number <= most) return 0;
     PyErr_Clear();
-    PyErr_Format(PyExc_OverflowError, "%s is out of range: it has to be in 0 to 2**%u - 1", name, bits);
+    PyErr_Format(PyExc_OverflowError, "%s is out of range: it has to be in 0 to %llu", name, (unsigned long long)most);
+    return -1;
+}
+
+/* Raises that this names no type. */
+static int fail_type(PyObject *object) {
+    PyObject *class = PyObject_GetAttrString((PyObject *)Py_TYPE(object), "__name__");
+    const char *hint = PyUnicode_Check(object) ? "; find() gives the type of a path" : "";
+    if (class) PyErr_Format(PyExc_TypeError, "a type is its position or a Type, not %R%s", class, hint);
+    Py_XDECREF(class);
     return -1;
 }
 
 /* Reads a type's position from an int, or from a Type of this registry. */
 int read_type(PyObject *registry, PyObject *object, uint32_t *type) {
     uint64_t number;
+    if (PyBool_Check(object) || !PyIndex_Check(object)) return fail_type(object);
     if (!PyLong_Check(object)) {
         PyObject *owner = PyObject_GetAttrString(object, "registry");
         bool is_other = owner && owner != registry;
@@ -88,19 +107,26 @@ int read_type(PyObject *registry, PyObject *object, uint32_t *type) {
         }
         PyErr_Clear();
     }
-    if (read_number("type", object, 32, &number) < 0) return -1;
+    if (read_number("type", object, UINT32_MAX, &number) < 0) return -1;
     *type = (uint32_t)number;
     return 0;
 }
 
-/* Reads the limits of a call; NULL stands for the usual one. */
+/* Reads the limits of a call; NULL stands for the usual one, and so does `...` as `memory`. */
 int read_limits(PyObject *depth, PyObject *limit, PyObject *memory, struct limits *limits) {
     uint64_t number = DEPTH;
-    *limits = (struct limits){DEPTH, LIMIT, 0};
-    if (depth && read_number("depth", depth, 16, &number) < 0) return -1;
+    *limits = (struct limits){DEPTH, memory && memory != Py_Ellipsis, LIMIT, 0};
+    if (depth && read_number("depth", depth, MOST_DEPTH, &number) < 0) return -1;
     limits->depth = (uint16_t)number;
-    if (limit && read_number("limit", limit, 64, &limits->limit) < 0) return -1;
-    return memory ? read_number("memory", memory, 64, &limits->memory) : 0;
+    if (limit && read_number("limit", limit, UINT64_MAX, &limits->limit) < 0) return -1;
+    bool is_number = limits->has_memory && memory != Py_None;
+    return is_number ? read_number("memory", memory, UINT64_MAX, &limits->memory) : 0;
+}
+
+/* Returns the budget of memory for an input of this many bytes, or 0 for none. An input above the greatest limit is rejected
+ * whatever its budget is. */
+uint64_t budget_of(const struct limits *limits, uint64_t length) {
+    return limits->has_memory ? limits->memory : MEMORY + MEMORY_OF_A_BYTE * length;
 }
 
 /* Returns an object that keeps the bytes of a buffer, and where they are. Bytes stay where they are, also a subclass's,

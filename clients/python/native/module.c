@@ -12,7 +12,7 @@ int add_class(PyObject *module, PyTypeObject **made, PyType_Spec *spec, const ch
 static PyObject *reason(PyObject *module, PyObject *number) {
     uint64_t code;
     (void)module;
-    return read_number("code", number, 32, &code) < 0 ? NULL : reason_of((uint32_t)code);
+    return read_number("code", number, UINT32_MAX, &code) < 0 ? NULL : reason_of((uint32_t)code);
 }
 
 static PyObject *after_fork(PyObject *module, PyObject *unused) {

@@ -15,7 +15,10 @@
 
 enum {
     DEPTH = 64,             /* the depth where no other is named */
+    MOST_DEPTH = 1024,      /* the greatest depth that the library takes */
     LIMIT = 1 << 24,        /* the limit of bytes where no other is named */
+    MEMORY = 1 << 26,       /* the budget of memory where no other is named, for an empty input */
+    MEMORY_OF_A_BYTE = 64,  /* what each byte of the input adds to it */
     LONG_INPUT = 1 << 12,   /* calls on this many bytes release the GIL */
     KEPT_SCRATCH = 1 << 20, /* scratch memory above this many bytes is freed after a call */
 };
@@ -94,6 +97,7 @@ static inline PyObject *new_ref(PyObject *object) {
 /* The depth and the limits of a call. */
 struct limits {
     uint16_t depth;
+    bool has_memory; /* the caller names `memory`, which is 0 for no budget */
     uint64_t limit, memory;
 };
 
@@ -113,12 +117,14 @@ uint32_t with_stack(uint16_t depth, uint32_t (*call)(void *), void *context);
 /* errors.c: exceptions, numbers and buffers. */
 extern PyObject *refused_class, *encode_error_class, *out_of_memory_class, *empties_class;
 int import_classes(void);
-void raise_answer(const scaleview_answer *answer, uint32_t type, Py_ssize_t item);
+void raise_answer(const scaleview_answer *answer, uint32_t type, Py_ssize_t item, uint64_t memory);
 void raise_rejected_node(const scaleview_answer *answer, PyObject *path);
+void raise_out_of_memory(uint64_t memory);
 PyObject *reason_of(uint32_t code);
-int read_number(const char *name, PyObject *object, unsigned bits, uint64_t *number);
+int read_number(const char *name, PyObject *object, uint64_t most, uint64_t *number);
 int read_type(PyObject *registry, PyObject *object, uint32_t *type);
 int read_limits(PyObject *depth, PyObject *limit, PyObject *memory, struct limits *limits);
+uint64_t budget_of(const struct limits *limits, uint64_t length);
 PyObject *bytes_of(PyObject *data, const uint8_t **bytes, size_t *length);
 
 /* types.c: what a registry says about its types. */

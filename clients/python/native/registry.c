@@ -88,6 +88,7 @@ static PyObject *decode_one(const struct call *call, PyObject *data, Py_ssize_t 
     size_t length;
     PyObject *kept = bytes_of(data, &bytes, &length), *value = NULL;
     if (!kept) return NULL;
+    uint64_t memory = budget_of(&call->limits, length);
     struct scratch scratch = take_scratch(shared);
     size_t nodes = length / 4 + 32;
     for (;;) {
@@ -96,7 +97,7 @@ static PyObject *decode_one(const struct call *call, PyObject *data, Py_ssize_t 
         enter(shared, false);
         PyThreadState *state = length >= LONG_INPUT ? PyEval_SaveThread() : NULL;
         uint32_t code = scaleview_decode_nodes(shared->registry, call->type, call->limits.depth, call->limits.limit,
-                                               call->limits.memory, bytes, length, scratch.nodes, scratch.node_room,
+                                               memory, bytes, length, scratch.nodes, scratch.node_room,
                                                scratch.bytes, scratch.byte_room, &answer);
         if (state) PyEval_RestoreThread(state);
         leave(shared);
@@ -106,7 +107,7 @@ static PyObject *decode_one(const struct call *call, PyObject *data, Py_ssize_t 
         } else if (code == SCALEVIEW_OK) {
             value = value_of(shared, scratch.nodes, (size_t)answer.length, scratch.bytes);
         } else {
-            raise_answer(&answer, call->type, item);
+            raise_answer(&answer, call->type, item, memory);
         }
         break;
     }
@@ -151,8 +152,9 @@ struct text_call {
 static uint32_t decode_text(void *context) {
     const struct text_call *text = context;
     const struct limits *limits = &text->call->limits;
-    return scaleview_decode(text->call->shared->registry, text->call->type, limits->depth, limits->limit, limits->memory,
-                            text->bytes, text->length, text->scratch->bytes, text->scratch->byte_room, text->answer);
+    return scaleview_decode(text->call->shared->registry, text->call->type, limits->depth, limits->limit,
+                            budget_of(limits, text->length), text->bytes, text->length, text->scratch->bytes,
+                            text->scratch->byte_room, text->answer);
 }
 
 static PyObject *registry_decode_json(PyObject *self, PyObject *args, PyObject *keywords) {
@@ -177,7 +179,7 @@ static PyObject *registry_decode_json(PyObject *self, PyObject *args, PyObject *
         if (code == SCALEVIEW_OK)
             made = PyUnicode_FromStringAndSize((const char *)scratch.bytes, (Py_ssize_t)answer.length);
         else
-            raise_answer(&answer, call.type, -1);
+            raise_answer(&answer, call.type, -1, budget_of(&call.limits, length));
         break;
     }
     give_scratch(call.shared, scratch);
@@ -290,15 +292,15 @@ static PyGetSetDef getters[] = {
 
 static PyMethodDef methods[] = {
     {"decode", (PyCFunction)(void (*)(void))registry_decode, KEYWORDS,
-     "decode($self, /, type, data, *, depth=64, limit=16777216, memory=0)\n--\n\n"
+     "decode($self, /, type, data, *, depth=64, limit=16777216, memory=...)\n--\n\n"
      "Returns the value of a type that all the bytes spell.\n\n"
      "Args:\n"
      "    type: A Type of this registry, or its position.\n"
      "    data: Bytes, or another object with a buffer.\n"
      "    depth: The greatest depth of a part, up to 1024; the value itself has depth 0.\n"
      "    limit: The greatest number of bytes of the value, up to 2**40.\n"
-     "    memory: The most bytes that the library allocates for it, without the Python objects; 0 sets no\n"
-     "        bound.\n\n"
+     "    memory: The most bytes that the library allocates for it, without the Python objects: 64 MiB and 64\n"
+     "        times the length of `data` if it isn't given. None or 0 sets no bound.\n\n"
      "Raises:\n"
      "    Refused: The value, the type or a limit is rejected, with the reason and the place.\n"
      "    OutOfMemory: An allocation failed, or would have exceeded `memory`.\n"
@@ -306,22 +308,23 @@ static PyMethodDef methods[] = {
      "    TypeError: `data` has no buffer.\n"
      "    ValueError: The registry is closed."},
     {"decode_json", (PyCFunction)(void (*)(void))registry_decode_json, KEYWORDS,
-     "decode_json($self, /, type, data, *, depth=64, limit=16777216, memory=0)\n--\n\n"
+     "decode_json($self, /, type, data, *, depth=64, limit=16777216, memory=...)\n--\n\n"
      "Returns the value as JSON text. The arguments and exceptions are those of `decode`."},
     {"decode_many", (PyCFunction)(void (*)(void))registry_decode_many, KEYWORDS,
-     "decode_many($self, /, type, items, *, depth=64, limit=16777216, memory=0)\n--\n\n"
+     "decode_many($self, /, type, items, *, depth=64, limit=16777216, memory=...)\n--\n\n"
      "Returns a list of the values of one type. The numbers and exceptions are those of `decode`, and hold\n"
      "for each value; `Refused.item` is the position of a rejected one."},
     {"encode", (PyCFunction)(void (*)(void))registry_encode, KEYWORDS,
-     "encode($self, /, type, value, *, depth=64, memory=0)\n--\n\n"
+     "encode($self, /, type, value, *, depth=64, memory=...)\n--\n\n"
      "Returns the bytes of a value, which `decode` turns into an equal value.\n\n"
      "A dict's fields may stand in any order. For a Variant, a pair of its name and fields is accepted; for\n"
-     "bytes, any object with a buffer; for a list or a tuple, the other one or another sequence.\n\n"
+     "bytes, any object with a buffer; for a list or a tuple, the other one or another sequence. If `memory`\n"
+     "isn't given, it is that of `decode` for 16 MiB.\n\n"
      "Raises:\n"
      "    TypeError, ValueError, OverflowError: The value isn't one of the type; the text begins with the path\n"
      "        of the wrong part.\n"
      "    EncodeError: The library rejects a part, such as one that is too deep, with the reason and the path.\n"
-     "    Refused: The type or the depth is rejected.\n"
+     "    Refused: The type is rejected.\n"
      "    OutOfMemory: An allocation failed, or would have exceeded `memory`."},
     {"close", registry_close, METH_NOARGS,
      "close($self, /)\n--\n\n"

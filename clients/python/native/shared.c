@@ -31,7 +31,7 @@ struct shared *open_shared(const uint8_t *bytes, size_t length, bool metadata) {
     if (state) PyEval_RestoreThread(state);
     if (code != SCALEVIEW_OK) {
         free(shared);
-        raise_answer(&answer, 0, -1);
+        raise_answer(&answer, 0, -1, 0);
         return NULL;
     }
     shared->references = 1;

@@ -67,7 +67,7 @@ static PyObject *read_text(const struct text_of *text, scaleview_answer *answer)
     if (answer->code == SCALEVIEW_OK)
         made = PyUnicode_FromStringAndSize((const char *)out, (Py_ssize_t)answer->length);
     else
-        raise_answer(answer, text->type, -1);
+        raise_answer(answer, text->type, -1, 0);
     free(many);
     if (made && interns && answer->length <= INTERNED) PyUnicode_InternInPlace(&made);
     return made;
@@ -170,7 +170,7 @@ static uint32_t read_shape(struct shared *shared, uint32_t type, scaleview_type_
     enter(shared, false);
     scaleview_type(shared->registry, type, shape, &answer);
     leave(shared);
-    if (answer.code != SCALEVIEW_OK) raise_answer(&answer, type, -1);
+    if (answer.code != SCALEVIEW_OK) raise_answer(&answer, type, -1, 0);
     return answer.code;
 }
 
@@ -289,6 +289,10 @@ PyObject *find_path(struct shared *shared, uint32_t from, PyObject *path) {
     scaleview_answer answer;
     const uint8_t *at = (const uint8_t *)PyBytes_AsString(bytes);
     size_t length = (size_t)PyBytes_Size(bytes);
+    if (length == 0) { /* types without a path aren't found by it */
+        Py_DECREF(bytes);
+        return new_ref(Py_None);
+    }
     enter(shared, false);
     uint32_t code = scaleview_find(shared->registry, from, at, length, &answer);
     leave(shared);

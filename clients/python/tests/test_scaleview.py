@@ -20,7 +20,7 @@ import time
 import unittest
 import zipfile
 from multiprocessing.reduction import ForkingPickler
-from typing import Any, Callable, Iterator
+from typing import Any, Callable, Iterator, Sequence
 
 import registries as make
 import scaleview
@@ -270,6 +270,15 @@ class Classes(unittest.TestCase):
         exec("match value:\n case Variant('Some', [{'a': found}]): pass", names)
         self.assertEqual(names["found"], 5)
 
+    def test_empties_are_counted_and_compared_as_a_list(self) -> None:
+        most = Empties((1 << 32) - 1)
+        self.assertEqual((Empties(3).count(None), Empties(3).count(0), most.count(None)), (3, 0, (1 << 32) - 1))
+        self.assertEqual((None in most, 5 in most, None in Empties(0)), (True, False, False))
+        self.assertTrue(Empties(3) == [None] * 3 and [None] * 3 == Empties(3) and Empties(0) == [])
+        for other in ([None] * 2, [None, 0, None], (None,) * 3, 3):
+            self.assertNotEqual(Empties(3), other)
+        self.assertNotEqual(most, [None])
+
     def test_empties_are_a_sequence(self) -> None:
         empties = Empties(3)
         self.assertEqual((len(empties), list(empties), empties[-1], empties[1:]), (3, [None] * 3, None, Empties(2)))
@@ -279,7 +288,7 @@ class Classes(unittest.TestCase):
         with self.assertRaises(IndexError):
             empties[3]
         with self.assertRaises(AttributeError):
-            empties.count = 4
+            setattr(empties, "count", 4)
         for number in (-1, 1 << 32):
             with self.assertRaises(OverflowError):
                 Empties(number)
@@ -424,10 +433,88 @@ class Encoding(unittest.TestCase):
             decoder.finish,
             decoder.finish_json,
         ]
+        message = "^the budget of 1000 bytes of memory is reached, or an allocation failed$"
         for call in calls:
-            with self.assertRaisesRegex(OutOfMemory, "memory"):
+            with self.assertRaisesRegex(OutOfMemory, message):
                 call()
         self.assertIsInstance(pickle.loads(pickle.dumps(OutOfMemory("x"))), MemoryError)
+
+    def test_a_sequence_is_not_copied_beyond_the_budget(self) -> None:
+        registry = Registry(make.registry_of(make.primitive("u16"), make.sequence(0), make.members(), make.sequence(2)))
+        taken: list[int] = []
+
+        class Long(Sequence[Any]):
+            def __len__(self) -> int:
+                return 10**7
+
+            def __getitem__(self, index: Any) -> Any:
+                taken.append(index)
+                return index
+
+        for value in (range(10**7), Long()):
+            for type_id in (1, 3):
+                with self.assertRaisesRegex(OutOfMemory, "^the budget of 1000 bytes"):
+                    registry.encode(type_id, value, memory=1000)
+        self.assertEqual(taken, [])
+        with self.assertRaisesRegex(OutOfMemory, "^the budget of"):
+            registry.encode(1, range(10**9))
+        self.assertEqual(len(registry.encode(1, range(1000), memory=1 << 20)), 2002)
+
+    def test_a_list_that_occurs_often_is_not_written_beyond_the_budget(self) -> None:
+        registry = Registry(make.registry_of(make.primitive("u16"), *map(make.sequence, range(4)), make.primitive("str")))
+        value: list[Any] = [1] * 1000
+        for _ in range(3):
+            value = [value] * 1000
+        with self.assertRaisesRegex(OutOfMemory, "^the budget of 1048576 bytes"):
+            registry.encode(4, value, memory=1 << 20)
+        with self.assertRaisesRegex(OutOfMemory, "^the budget of 1000 bytes"):
+            registry.encode(5, "a" * 1001, memory=1000)
+
+    @unittest.skipUnless(sys.platform == "linux", "the system may not keep the limit of memory")
+    def test_without_a_budget_the_system_refuses_memory(self) -> None:
+        program = (
+            "import registries as make, resource, scaleview\n"
+            "registry = scaleview.Registry(make.registry_of(make.members(), make.primitive('u8'),\n"
+            "    make.composite((None, 1), *[(None, 0)] * 50_000), make.sequence(2)))\n"
+            "resource.setrlimit(resource.RLIMIT_AS, (1 << 29, 1 << 29))\n"
+            "try: registry.decode(3, make.compact(1000) + bytes(1000), memory=None)\n"
+            "except scaleview.OutOfMemory as error: print(error)\n"
+        )
+        command = [sys.executable, "-c", program]
+        folder = str(pathlib.Path(__file__).parent)
+        ended = subprocess.run(command, cwd=folder, stdout=subprocess.PIPE, universal_newlines=True)
+        self.assertEqual(ended.stdout, "an allocation failed\n")
+
+    def test_a_budget_of_memory_is_set_where_none_is_given(self) -> None:
+        empties = [(None, 0)] * 50_000
+        registry = Registry(
+            make.registry_of(make.members(), make.primitive("u8"), make.composite((None, 1), *empties), make.sequence(2))
+        )
+        data = make.compact(60) + bytes(60)
+
+        def in_pieces(**memory: Any) -> str:
+            decoder = Decoder(registry, 3, limit=len(data), **memory)
+            decoder.feed(data)
+            return decoder.finish_json()
+
+        calls: list[Callable[..., object]] = [
+            lambda **memory: registry.decode(3, data, **memory),
+            lambda **memory: registry.decode_json(3, data, **memory),
+            lambda **memory: registry.decode_many(3, [data], **memory),
+            in_pieces,
+        ]
+        for call in calls:
+            for memory in ({}, {"memory": ...}):
+                budget = (64 << 20) + 64 * len(data)
+                with self.assertRaisesRegex(OutOfMemory, f"^the budget of {budget} bytes of memory is reached"):
+                    call(**memory)
+            for bound in (None, 0):
+                call(memory=bound)
+        # Larger values have larger budgets.
+        flags = Registry(make.registry_of(make.primitive("bool"), make.sequence(0)))
+        data = make.compact(3 << 20) + bytes(3 << 20)
+        self.assertEqual(flags.decode_json(1, data).count("false"), 3 << 20)
+        self.assertEqual(flags.encode(1, [False] * 100, memory=None), make.compact(100) + bytes(100))
 
 
 class Pieces(unittest.TestCase):
@@ -450,6 +537,16 @@ class Pieces(unittest.TestCase):
             with self.assertRaisesRegex(ValueError, "^the decoder is closed$"):
                 call()
         decoder.close()
+
+    def test_a_decoder_is_shown_with_its_type_and_bytes(self) -> None:
+        decoder = Decoder(Registry(BYTES), 1)
+        decoder.feed(bytes.fromhex("0c0102"))
+        self.assertEqual(repr(decoder), "<Decoder of type 1, 3 bytes taken>")
+        decoder.feed(b"\3")
+        decoder.finish()
+        self.assertEqual(repr(decoder), "<Decoder of type 1, 4 bytes taken>")
+        decoder.close()
+        self.assertEqual(repr(decoder), "<Decoder of type 1, closed>")
 
     def test_a_refusal_is_kept(self) -> None:
         registry = Registry(U32)
@@ -528,8 +625,10 @@ class Arguments(unittest.TestCase):
             for number in (1 << 32, -(1 << 32), -1, 1 << 64, (1 << 64) - 1, 1 << 100_000):
                 with self.assertRaisesRegex(OverflowError, "^type is out of range: "):
                     call(number)
-            numbers = [("depth", 65536), ("depth", 65600), ("depth", -1), ("limit", 1 << 64), ("limit", -1), ("memory", -1)]
-            for name, number in numbers:
+            for number in (-1, 1025, 65536, 65600, 1 << 64):
+                with self.assertRaisesRegex(OverflowError, "^depth is out of range: it has to be in 0 to 1024$"):
+                    call(0, depth=number)
+            for name, number in (("limit", 1 << 64), ("limit", -1), ("memory", -1)):
                 with self.assertRaisesRegex(OverflowError, f"^{name} is out of range: "):
                     call(0, **{name: number})
             wrong: Any
@@ -538,7 +637,7 @@ class Arguments(unittest.TestCase):
                     call(wrong)
                 with self.assertRaises(TypeError):
                     call(0, depth=wrong)
-        for name, number in (("depth", 65600), ("memory", 1 << 64)):
+        for name, number in (("depth", 1025), ("depth", 65600), ("memory", 1 << 64)):
             with self.assertRaisesRegex(OverflowError, f"^{name} is out of range: "):
                 registry.encode(0, 1, **{name: number})
         with self.assertRaisesRegex(OverflowError, "^type is out of range: "):
@@ -546,14 +645,12 @@ class Arguments(unittest.TestCase):
 
     def test_numbers_in_range_reach_the_library(self) -> None:
         registry = Registry(U16)
-        for limits in ({"depth": 65535}, {"depth": 1025}, {"limit": (1 << 64) - 1}):
+        for limit in ((1 << 64) - 1, (1 << 40) + 1):
             for call in (registry.decode, registry.decode_json):
                 with self.assertRaisesRegex(Refused, "^limits: LimitOutOfRange$"):
-                    call(0, b"\x02\x00", **limits)
+                    call(0, b"\x02\x00", limit=limit)
             with self.assertRaisesRegex(Refused, "^limits: LimitOutOfRange$"):
-                Decoder(registry, 0, **limits)
-        with self.assertRaisesRegex(Refused, "^limits: LimitOutOfRange$"):
-            registry.encode(0, 2, depth=1025)
+                Decoder(registry, 0, limit=limit)
         for number in ((1 << 32) - 1, 1):
             calls: list[Callable[[], object]] = [
                 lambda: registry.decode(number, b""),
@@ -608,12 +705,12 @@ class Arguments(unittest.TestCase):
 
     @unittest.skipIf(sys.version_info < (3, 11), "older versions know no signatures of such classes")
     def test_signatures_are_shown(self) -> None:
-        rest = "depth=64, limit=16777216, memory=0)"
+        rest = "depth=64, limit=16777216, memory=Ellipsis)"
         for call, signature in (
             (Registry, "(data, *, metadata=None)"),
             (Registry.decode, f"(self, /, type, data, *, {rest}"),
             (Registry.decode_many, f"(self, /, type, items, *, {rest}"),
-            (Registry.encode, "(self, /, type, value, *, depth=64, memory=0)"),
+            (Registry.encode, "(self, /, type, value, *, depth=64, memory=Ellipsis)"),
             (Decoder, f"(registry, type, *, {rest}"),
             (Decoder.feed, "(self, piece, /)"),
             (Variant, "(name, fields=[])"),
@@ -688,7 +785,7 @@ class Types(unittest.TestCase):
         options = registry.find_all("Option")
         self.assertGreater(len(options), 3)
         self.assertEqual({found.path for found in options}, {"Option"})
-        self.assertEqual(len(registry.find_all("")), sum(not found.path for found in registry.types))
+        self.assertEqual((registry.find(""), registry.find_all("")), (None, []))
         self.assertEqual((registry.find("frame_system"), registry.find_all("x::Y")), (None, []))
         lines = (EXAMPLES / "runtime" / "types.txt").read_text().splitlines()
         self.assertEqual([str(found) for found in registry.types], lines)
@@ -711,6 +808,21 @@ class Types(unittest.TestCase):
         with self.assertRaisesRegex(Refused, "^type: UnknownType 9$"):
             Type(registry, 9).kind
 
+    def test_what_is_no_type_is_named(self) -> None:
+        registry = Registry(BYTES)
+        wrong: Any
+        for wrong in ("frame_system::AccountInfo", True, None, 1.0, Type):
+            message = f"a type is its position or a Type, not '{type(wrong).__name__}'"
+            if isinstance(wrong, str):
+                message += "; find() gives the type of a path"
+            for call in (registry.decode, registry.decode_json, registry.decode_many, registry.encode):
+                with self.assertRaises(TypeError) as raised:
+                    call(wrong, b"\x04a")
+                self.assertEqual(str(raised.exception), message)
+            with self.assertRaises(TypeError) as raised:
+                Decoder(registry, wrong)
+            self.assertEqual(str(raised.exception), message)
+
 
 class Stubs(unittest.TestCase):
     def test_stubs_name_what_is_there(self) -> None:
@@ -725,6 +837,23 @@ class Stubs(unittest.TestCase):
             self.assertEqual({name for name in there if not name.startswith("__")} - stubbed, set())
         for name in scaleview.__all__:
             self.assertTrue(getattr(scaleview, name))
+
+    def test_stubs_tell_which_classes_are_final(self) -> None:
+        stub = ast.parse((pathlib.Path(scaleview.__file__).parent / "_native.pyi").read_text())
+        for node in (part for part in stub.body if isinstance(part, ast.ClassDef)):
+            words = [word.id for word in node.decorator_list if isinstance(word, ast.Name)]
+            try:
+                type("Derived", (getattr(scaleview._native, node.name),), {})
+                self.assertEqual(words, [])
+            except TypeError:
+                self.assertEqual(words, ["final"])
+
+    def test_annotations_name_what_is_taken(self) -> None:
+        stub = (pathlib.Path(scaleview.__file__).parent / "_native.pyi").read_text()
+        self.assertIn("from typing_extensions import Buffer", stub)
+        registry = Registry(BYTES)
+        self.assertIn("SupportsIndex", type(registry.types).__getitem__.__annotations__["index"])
+        self.assertEqual(registry.types[registry.types[1]], registry.types[1])
 
 
 class Answers(unittest.TestCase):
@@ -759,7 +888,7 @@ class Answers(unittest.TestCase):
             lambda: Registry(bytes.fromhex("08000000050300040000020800")),
             lambda: Registry(U16).decode(0, b"\x01"),
             lambda: Registry(U16).decode(1, b"\x01"),
-            lambda: Registry(U16).decode(0, b"\x01", depth=1025),
+            lambda: Registry(U16).decode(0, b"\x01", limit=1 << 41),
             lambda: Registry(U16).decode_many(0, [b"\x01"]),
         ):
             with self.assertRaises(Refused) as context:
@@ -795,6 +924,38 @@ class Answers(unittest.TestCase):
             command = [sys.executable, str(path)]
             printed = subprocess.run(command, stdout=subprocess.PIPE, universal_newlines=True, timeout=120)
         self.assertEqual(printed.stdout, "[25185, 25699]\nvalue: Truncated at 1\n1 Truncated\n")
+
+
+class Program(unittest.TestCase):
+    """decode.py."""
+
+    folder = EXAMPLES / "account"
+
+    def check(self, words: list[str], status: int, out: str, err: str) -> None:
+        command = [sys.executable, str(CLIENT / "decode.py"), *words]
+        ended = subprocess.run(command, stdout=subprocess.PIPE, stderr=subprocess.PIPE, universal_newlines=True)
+        self.assertEqual((ended.returncode, ended.stdout, ended.stderr), (status, out, err))
+
+    def test_a_value_is_read_as_hexadecimal_text(self) -> None:
+        begin = ["decode", str(self.folder / "metadata.scale"), "5"]
+        end = ["--metadata", "--hex"]
+        shown = (self.folder / "memo.json").read_text()
+        self.check([*begin, str(self.folder / "memo.hex"), *end], 0, shown, "")
+        with tempfile.TemporaryDirectory() as folder:
+            path = pathlib.Path(folder) / "value.hex"
+            for text in (b"145343414C45", b"0x145343414c45\r\n", b"145343414c45\n"):
+                path.write_bytes(text)
+                self.check([*begin, str(path), *end, "--pieces", "3"], 0, shown, "")
+            odd = ((b"0x145", "OddHex at 5"), (b"14\n\n", "OddHex at 3"))
+            for text, reason in (*odd, (b"0x14 5", "BadHex at 4"), (b"0X14", "BadHex at 1")):
+                path.write_bytes(text)
+                self.check([*begin, str(path), *end], 1, "", f"scaleview: value: {reason}\n")
+
+    def test_a_missing_file_is_named_in_a_line(self) -> None:
+        there, missing = str(self.folder / "registry.scale"), str(self.folder / "missing.scale")
+        line = f"scaleview: {missing}: No such file or directory\n"
+        for words in (["types", missing], ["decode", missing, "4", there], ["decode", there, "4", missing]):
+            self.check(words, 3, "", line)
 
 
 class Building(unittest.TestCase):

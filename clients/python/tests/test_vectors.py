@@ -80,7 +80,7 @@ def shown(value: Any, found: Type) -> Any:
         assert found.size_class == "Empty"
         return None
     if isinstance(value, Empties):
-        return {"count": value.count}
+        return {"count": len(value)}
     if isinstance(value, bytes):
         assert kind in ("sequence", "array") and found.element is not None and types[found.element].kind == "u8"
         return "0x" + value.hex()
@@ -132,8 +132,8 @@ class Vectors(unittest.TestCase):
     def check_types(self, registry: Registry) -> None:
         for found in registry.types:
             self.assertEqual(str(found), f"{found.id} {found.size_class} {found.kind} {json_text(found.path)}")
-            self.assertIn(found, registry.find_all(found.path))
-            self.assertEqual(registry.find_all(found.path)[0], registry.find(found.path))
+            self.assertEqual(found in registry.find_all(found.path), found.path != "")
+            self.assertEqual(registry.find_all(found.path)[:1], [registry.find(found.path)] if found.path else [])
             for field in (*found.fields, *(field for arm in found.variants for field in arm.fields)):
                 self.assertLess(field.type, len(registry.types))
 
@@ -152,6 +152,13 @@ class Vectors(unittest.TestCase):
         self.assertEqual(dumped(shown(decoded, registry.types[value.type_id])), value.whole())
         self.assertEqual(registry.encode(value.type_id, decoded, depth=value.depth), value.data)
         Vectors.encoded += 1
+
+    def check_depth_out_of_range(self, registry: Registry, value: Value) -> None:
+        for call in (registry.decode, registry.decode_json):
+            with self.assertRaises(OverflowError):
+                call(value.type_id, value.data, depth=value.depth)
+        with self.assertRaises(OverflowError):
+            Decoder(registry, value.type_id, depth=value.depth)
 
     def check_pieces(self, registry: Registry, value: Value, step: int) -> None:
         try:
@@ -194,6 +201,9 @@ class Vectors(unittest.TestCase):
         for row in rows_of("values.tsv"):
             with self.subTest(row[0]):
                 registry, value = Registry.raw(registries[row[1]]), value_of(row)
+                if value.depth > 1024:
+                    self.check_depth_out_of_range(registry, value)
+                    continue
                 self.check_whole(registry, value)
                 for step in 1, 7, 4096:
                     self.check_pieces(registry, value, step)

@@ -24,7 +24,20 @@ The decoder behind this package is proved; the package is not.
 from __future__ import annotations
 
 import os
-from typing import Any, Iterator, List, NamedTuple, Optional, Sequence, Tuple, TypeVar, Union, overload
+from typing import (
+    TYPE_CHECKING,
+    Any,
+    Iterator,
+    List,
+    NamedTuple,
+    Optional,
+    Sequence,
+    SupportsIndex,
+    Tuple,
+    TypeVar,
+    Union,
+    overload,
+)
 
 try:
     from . import _native
@@ -51,8 +64,11 @@ __all__ = [
     "LIMIT",
 ]
 
-#: Any object with a buffer is accepted at run time; this names the usual ones.
-Buffer = Union[bytes, bytearray, memoryview]
+# Checkers of types know typing_extensions, which needn't be installed.
+if TYPE_CHECKING:
+    from typing_extensions import Buffer
+else:
+    Buffer = Any
 
 _R = TypeVar("_R", bound="Registry")
 
@@ -165,12 +181,12 @@ class Types(Sequence[Type]):
         return self._registry._count
 
     @overload
-    def __getitem__(self, index: int) -> Type: ...
+    def __getitem__(self, index: SupportsIndex) -> Type: ...
 
     @overload
     def __getitem__(self, index: slice) -> List[Type]: ...
 
-    def __getitem__(self, index: Union[int, slice]) -> Union[Type, List[Type]]:
+    def __getitem__(self, index: Union[SupportsIndex, slice]) -> Union[Type, List[Type]]:
         try:
             found = range(len(self))[index]
         except IndexError:
@@ -211,7 +227,7 @@ class Registry(_native.Registry):
         return Types(self)
 
     def find(self, path: str) -> Optional[Type]:
-        """Returns the first type with this path, such as "frame_system::AccountInfo", or None."""
+        """Returns the first type with this path, such as "frame_system::AccountInfo", or None, as for ""."""
         found = self._find(path)
         return None if found is None else Type(self, found)
 

@@ -68,7 +68,7 @@ class EncodeError(Refused):
 
 
 class OutOfMemory(MemoryError):
-    """An allocation of the library failed, or would have exceeded the bound `memory`."""
+    """An allocation of the library failed, or would have exceeded the bound `memory`, which the text then names."""
 
 
 class Empties(Sequence[None]):
@@ -77,34 +77,44 @@ class Empties(Sequence[None]):
     A value of five bytes may have 2**32 - 1 such elements, so `decode` makes no list of them.
     """
 
-    __slots__ = ("count",)
+    __slots__ = ("_count",)
 
-    count: int  # type: ignore[assignment]
+    _count: int
 
     def __init__(self, count: int) -> None:
         number = operator.index(count)
         if not 0 <= number < 1 << 32:
             raise OverflowError("count is out of range: it has to be in 0 to 2**32 - 1")
-        object.__setattr__(self, "count", number)
+        object.__setattr__(self, "_count", number)
 
     def __setattr__(self, name: str, value: object) -> None:
         raise AttributeError(f"{name} can't be set")
 
     def __len__(self) -> int:
-        return self.count
+        return self._count
 
     def __getitem__(self, index: Any) -> Any:
-        found = range(self.count)[index]
+        found = range(self._count)[index]
         return Empties(len(found)) if isinstance(found, range) else None
 
     def __eq__(self, other: object) -> bool:
-        return self.count == other.count if isinstance(other, Empties) else NotImplemented
+        """Returns whether they are as many, or a list of so many None."""
+        if isinstance(other, list):
+            return len(other) == self._count == other.count(None)
+        return self._count == other._count if isinstance(other, Empties) else NotImplemented
+
+    def __contains__(self, value: object) -> bool:
+        return self.count(value) > 0
+
+    def count(self, value: object) -> int:
+        """Returns how many elements equal the value, without looking at each."""
+        return [None].count(value) * self._count  # type: ignore[arg-type]
 
     def __hash__(self) -> int:
-        return hash((Empties, self.count))
+        return hash((Empties, self._count))
 
     def __repr__(self) -> str:
-        return f"Empties({self.count})"
+        return f"Empties({self._count})"
 
     def __reduce__(self) -> Any:
-        return Empties, (self.count,)
+        return Empties, (self._count,)
