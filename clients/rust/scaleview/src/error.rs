@@ -153,7 +153,7 @@ pub enum Error {
         /// The position of the field in its type.
         field: u32,
     },
-    /// An allocation failed, or would have exceeded [`Limits::memory`](crate::Limits::memory).
+    /// An allocation failed, or would have exceeded the budget of [`Limits`](crate::Limits).
     Memory,
     /// The library that is linked is of another version than this crate, by
     /// [`scaleview_sys::scaleview_version`].

@@ -45,7 +45,7 @@ mod value;
 
 pub use error::{Error, NodeReason, RegistryReason, ValueReason};
 pub use item::{Item, Source};
-pub use limits::Limits;
+pub use limits::{Limits, Memory};
 pub use registry::Registry;
 pub use session::{AnySession, OwnedSession, Progress, Session};
 pub use types::{Class, Field, Primitive, Type, TypeId, TypeKind, Types, Variant};

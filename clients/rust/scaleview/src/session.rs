@@ -88,11 +88,9 @@ pub type OwnedSession = AnySession<Arc<Registry>>;
 
 impl<R: Keeps> AnySession<R> {
     pub(crate) fn over(registry: R, id: TypeId, limits: Limits) -> Result<AnySession<R>, Error> {
-        let Limits {
-            depth,
-            bytes,
-            memory,
-        } = limits;
+        let Limits { depth, bytes, .. } = limits;
+        // The length of all pieces isn't known yet, and the limit bounds it.
+        let memory = limits.budget(bytes);
         let (mut handle, mut answer) = (
             Handle {
                 inside: std::ptr::null_mut(),

@@ -3,7 +3,9 @@
 mod common;
 
 use common::*;
-use scaleview::{Class, Error, Item, Kind, Limits, NodeReason, Primitive, Registry, TypeKind};
+use scaleview::{
+    Class, Error, Item, Kind, Limits, Memory, NodeReason, Primitive, Registry, TypeKind,
+};
 use std::fs;
 use std::path::Path;
 use std::time::{Duration, Instant};
@@ -321,10 +323,11 @@ fn items_may_be_as_deep_as_values() {
     );
 }
 
-/// A composite with very many fields, of which the last is a u8 and the others are empty.
-#[test]
-fn a_composite_of_many_fields_is_walked_soon() {
-    const FIELDS: u32 = 99_999;
+const FIELDS: u32 = 99_999;
+
+/// A composite with very many fields, of which the last is a u8 and the others are empty: type 2.
+/// Type 3 is a sequence of it.
+fn many_fields() -> Registry {
     let unit = b"\x00\x00\x00\x04\x00\x00";
     let field = |type_id: u8| [0, type_id * 4, 0, 0];
     let fields = [field(0).repeat(FIELDS as usize - 1), field(1).to_vec()].concat();
@@ -343,7 +346,12 @@ fn a_composite_of_many_fields_is_walked_soon() {
         b"\x0c\x00\x00\x02\x08\x00",
     ]
     .concat();
-    let registry = Registry::open(&registry).unwrap();
+    Registry::open(&registry).unwrap()
+}
+
+#[test]
+fn a_composite_of_many_fields_is_walked_soon() {
+    let registry = many_fields();
     let begun = Instant::now();
     let value = registry.decode(2, b"\x2a").unwrap();
     assert_eq!(value.children().last().unwrap().as_u128(), Some(42));
@@ -362,6 +370,24 @@ fn a_composite_of_many_fields_is_walked_soon() {
         Err(Error::Memory)
     );
     assert!(begun.elapsed() < Duration::from_secs(20));
+}
+
+#[test]
+fn memory_is_bounded_where_no_budget_is_given() {
+    let registry = many_fields();
+    // Six million nodes.
+    let many = [vec![60 * 4], vec![7; 60]].concat();
+    assert_eq!(registry.decode(3, &many).err(), Some(Error::Memory));
+    let limits = Limits::default().bytes(many.len() as u64);
+    let mut session = registry.start(3, limits).unwrap();
+    assert_eq!(session.feed(&many), Err(Error::Memory));
+    let unbounded = limits.unbounded_memory();
+    let value = registry.decode_within(3, &many, unbounded).unwrap();
+    assert_eq!(registry.encode(3, &value), Ok(many));
+    assert_eq!(limits.memory(0), unbounded);
+    let mut none = limits;
+    none.memory = Memory::AtMost(0);
+    assert_eq!(registry.decode_within(2, b"\x2a", none), Err(Error::Memory));
 }
 
 /// Compacts of wrappers of wrappers: each compact's target is far away, and is found once.
