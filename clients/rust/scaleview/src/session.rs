@@ -11,6 +11,18 @@ use std::fmt;
 use std::sync::{Arc, Mutex, PoisonError};
 
 /// How far a value is.
+///
+/// A piece may go on after the value, so the compiler warns if this is dropped unread:
+///
+/// ```compile_fail
+/// #![deny(unused_must_use)]
+/// # fn main() -> Result<(), scaleview::Error> {
+/// let registry = scaleview::Registry::open(b"\x04\x00\x00\x00\x05\x03\x00")?;
+/// registry.start(0, Default::default())?.feed(b"\x2a\xff")?;
+/// # Ok(())
+/// # }
+/// ```
+#[must_use = "the value may end inside the piece"]
 #[derive(Clone, Copy, Debug, PartialEq, Eq, Hash)]
 pub enum Progress {
     /// All bytes of the piece were taken, and the value is incomplete.
@@ -18,7 +30,7 @@ pub enum Progress {
     /// The value is complete.
     Done {
         /// How many bytes of this piece belong to it.
-        used: u64,
+        used: usize,
     },
 }
 
@@ -70,14 +82,14 @@ pub type Session<'r> = AnySession<&'r Registry>;
 ///
 /// ```
 /// # fn main() -> Result<(), scaleview::Error> {
-/// use scaleview::{Limits, OwnedSession, Registry};
+/// use scaleview::{Limits, OwnedSession, Progress, Registry};
 /// use std::sync::Arc;
 /// struct Reader { registry: Arc<Registry>, session: OwnedSession }
 /// let registry = Arc::new(Registry::open(b"\x04\x00\x00\x00\x05\x04\x00")?);
 /// let session = registry.start_owned(0, Limits::new())?;
 /// let mut reader = Reader { registry, session };
 /// let text = std::thread::spawn(move || {
-///     reader.session.feed(b"\x2a\x00")?;
+///     assert_eq!(reader.session.feed(b"\x2a\x00")?, Progress::Done { used: 2 });
 ///     reader.session.finish_json()
 /// });
 /// assert_eq!(text.join().unwrap()?, "42");
@@ -129,6 +141,7 @@ impl<R: Keeps> AnySession<R> {
     /// # Errors
     /// `Value` with the reason and the place in all pieces, `Memory`. Every later call returns the
     /// same.
+    #[must_use = "a piece may be rejected, and the value may end inside it"]
     pub fn feed(&mut self, piece: &[u8]) -> Result<Progress, Error> {
         let mut answer = Answer::default();
         // SAFETY: the handle is a session's, and this call has it alone; the slice and the place
@@ -138,8 +151,9 @@ impl<R: Keeps> AnySession<R> {
         });
         match code {
             sys::SCALEVIEW_MORE => Ok(Progress::More),
+            // At most the length of the piece.
             sys::SCALEVIEW_OK => Ok(Progress::Done {
-                used: answer.length,
+                used: answer.length as usize,
             }),
             _ => Err(Error::of(answer)),
         }

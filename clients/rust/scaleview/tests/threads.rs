@@ -87,7 +87,7 @@ fn a_struct_owns_a_registry_and_its_session() {
 fn make(registry: &Registry, id: u32, bytes: &[u8], step: usize) -> [String; 3] {
     let mut session = registry.start(id, Limits::new()).unwrap();
     for piece in bytes.chunks(step) {
-        session.feed(piece).unwrap();
+        let _ = session.feed(piece).unwrap();
     }
     assert_eq!(session.taken(), bytes.len() as u64);
     let value = registry.decode(id, bytes).unwrap();
@@ -125,13 +125,13 @@ fn four_threads_have_sessions_of_one_registry() {
 fn a_session_is_shared_while_others_begin_and_end() {
     let registry = Registry::open(U16).unwrap();
     let mut shared = registry.start(0, Limits::new()).unwrap();
-    shared.feed(b"\x07").unwrap();
+    let _ = shared.feed(b"\x07").unwrap();
     thread::scope(|scope| {
         for _ in 0..4 {
             scope.spawn(|| {
                 for _ in 0..1000 {
                     let mut own = registry.start(0, Limits::new()).unwrap();
-                    own.feed(b"\x01").unwrap();
+                    let _ = own.feed(b"\x01").unwrap();
                     assert_eq!((shared.taken(), own.taken(), registry.len()), (1, 1, 1));
                 }
             });
@@ -145,7 +145,7 @@ fn a_session_is_shared_while_others_begin_and_end() {
 fn a_session_is_asked_by_four_threads() {
     let registry = Registry::open(U16).unwrap();
     let mut shared = registry.start(0, Limits::new()).unwrap();
-    shared.feed(b"\x07\x00").unwrap();
+    let _ = shared.feed(b"\x07\x00").unwrap();
     let begun = Barrier::new(4);
     thread::scope(|scope| {
         for _ in 0..4 {
