@@ -3,7 +3,7 @@
 use crate::describe::Details;
 use crate::error::Error;
 use crate::registry::Registry;
-use crate::types::{Field, FieldList, Type, TypeId};
+use crate::types::{Field, FieldList, Primitive, Type, TypeId};
 use scaleview_sys::{self as sys, scaleview_node as Node};
 use std::{fmt, slice, str};
 
@@ -76,6 +76,11 @@ impl<'r> Value<'r> {
         self.root().type_id()
     }
 
+    /// Does what [`ValueRef::ty`] does.
+    pub fn ty(&self) -> Option<Type<'_>> {
+        self.root().ty()
+    }
+
     /// Does what [`ValueRef::kind`] does.
     pub fn kind(&self) -> Kind<'_> {
         self.root().kind()
@@ -101,14 +106,34 @@ impl<'r> Value<'r> {
         self.root().get(name)
     }
 
+    /// Does what [`ValueRef::variant_name`] does.
+    pub fn variant_name(&self) -> Option<&str> {
+        self.root().variant_name()
+    }
+
     /// Does what [`ValueRef::variant`] does.
     pub fn variant(&self) -> Option<(&str, Children<'_>)> {
         self.root().variant()
     }
 
+    /// Does what [`ValueRef::as_bool`] does.
+    pub fn as_bool(&self) -> Option<bool> {
+        self.root().as_bool()
+    }
+
+    /// Does what [`ValueRef::as_char`] does.
+    pub fn as_char(&self) -> Option<char> {
+        self.root().as_char()
+    }
+
     /// Does what [`ValueRef::as_u128`] does.
     pub fn as_u128(&self) -> Option<u128> {
         self.root().as_u128()
+    }
+
+    /// Does what [`ValueRef::as_i128`] does.
+    pub fn as_i128(&self) -> Option<i128> {
+        self.root().as_i128()
     }
 
     /// Does what [`ValueRef::as_str`] does.
@@ -122,11 +147,10 @@ impl<'r> Value<'r> {
     }
 }
 
-/// Two values are equal if their nodes and bytes are, types included; the registries aren't
-/// compared.
+/// Two values are equal if their views are.
 impl PartialEq for Value<'_> {
     fn eq(&self, other: &Value<'_>) -> bool {
-        self.nodes == other.nodes && self.pool == other.pool
+        self.root() == other.root()
     }
 }
 
@@ -347,11 +371,18 @@ impl<'a> ValueRef<'a> {
         }
     }
 
-    /// Returns an integer of at most 128 bits, if it is in range.
+    /// Returns an integer of any width, if it is in the range of an `i128`.
     pub fn as_i128(self) -> Option<i128> {
         match self.kind() {
             Kind::Unsigned(number) | Kind::Compact(number) => i128::try_from(number).ok(),
             Kind::Signed(number) => Some(number),
+            Kind::Wide(bytes) => {
+                let (low, high) = bytes.split_first_chunk::<16>()?;
+                let number = i128::from_le_bytes(*low);
+                let sign = if number < 0 { 0xff } else { 0 };
+                let may_be = number >= 0 || self.ty()?.primitive() == Some(Primitive::I256);
+                (may_be && high.iter().all(|byte| *byte == sign)).then_some(number)
+            }
             _ => None,
         }
     }
@@ -374,6 +405,23 @@ impl<'a> ValueRef<'a> {
         }
     }
 }
+
+/// Two views are equal if their types and what they hold are; the registries aren't compared.
+impl PartialEq for ValueRef<'_> {
+    fn eq(&self, other: &ValueRef<'_>) -> bool {
+        let is_same = |(one, its): (&Node, &Node)| match one.kind {
+            // Equal bytes may lie at different places of the pools.
+            sys::SCALEVIEW_NODE_TEXT | sys::SCALEVIEW_NODE_BYTES | sys::SCALEVIEW_NODE_WIDE => {
+                (one.kind, one.r#type) == (its.kind, its.r#type)
+                    && self.bytes(*one) == other.bytes(*its)
+            }
+            _ => one == its,
+        };
+        self.nodes.len() == other.nodes.len() && self.nodes.iter().zip(other.nodes).all(is_same)
+    }
+}
+
+impl Eq for ValueRef<'_> {}
 
 impl fmt::Debug for ValueRef<'_> {
     fn fmt(&self, f: &mut fmt::Formatter<'_>) -> fmt::Result {

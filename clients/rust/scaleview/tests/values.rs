@@ -235,6 +235,61 @@ fn items_of_all_kinds_are_encoded() {
 }
 
 #[test]
+fn wide_integers_are_read_as_narrow_ones() {
+    let registry = numbers();
+    let (max, min) = (i128::MAX, i128::MIN);
+    for (item, unsigned, signed) in [
+        (Item::from(5), Some(5), Some(5)),
+        (Item::from(-5), None, Some(-5)),
+        (max.into(), Some(max as u128), Some(max)),
+        (min.into(), None, Some(min)),
+        (u128::MAX.into(), Some(u128::MAX), None),
+        (Item::Wide([7; 32]), None, None),
+    ] {
+        let bytes = registry.encode(14, &item).unwrap();
+        let value = registry.decode(14, &bytes).unwrap();
+        assert_eq!((value.as_u128(), value.as_i128()), (unsigned, signed));
+        let is_positive = bytes[31] == 0;
+        let value = registry.decode(8, &bytes).unwrap();
+        let positive = (unsigned, signed.filter(|_| is_positive));
+        assert_eq!((value.as_u128(), value.as_i128()), positive, "{item:?}");
+    }
+}
+
+#[test]
+fn a_value_offers_what_its_view_does() {
+    let registry = numbers();
+    let decode = |id, bytes: &'static [u8]| registry.decode(id, bytes).unwrap();
+    let (yes, letter) = (decode(0, b"\x01"), decode(1, b"a\0\0\0"));
+    assert_eq!((yes.as_bool(), yes.as_char()), (Some(true), None));
+    assert_eq!((letter.as_bool(), letter.as_char()), (None, Some('a')));
+    assert_eq!(decode(9, b"\xff").as_i128(), Some(-1));
+    assert_eq!(yes.ty().map(|ty| ty.id()), Some(0));
+    assert_eq!(yes.variant_name(), None);
+    let chain = Registry::open(CHAIN).unwrap();
+    let value = chain.decode(0, &common::chain(1)).unwrap();
+    assert_eq!(value.variant_name(), Some("Next"));
+}
+
+#[test]
+fn views_are_compared_by_what_they_hold() {
+    let registry = numbers();
+    let texts = Registry::open(b"\x0c\0\0\0\x05\x02\0\x04\0\0\x02\0\0\x08\0\0\x05\x02\0").unwrap();
+    let list = texts.decode(1, b"\x10\x04a\x04b\x04a\x08aa").unwrap();
+    let part = |position| list.child(position).unwrap();
+    assert_eq!(part(0), part(2));
+    assert_ne!(part(0), part(1));
+    assert_ne!(part(0), part(3));
+    assert_eq!(part(0), texts.decode(0, b"\x04a").unwrap().root());
+    assert_ne!(part(0), texts.decode(2, b"\x04a").unwrap().root());
+    let number = |bytes: &'static [u8]| registry.decode(20, bytes).unwrap();
+    assert_eq!(number(b"\x04\x01\0"), number(b"\x04\x01\0"));
+    assert_ne!(number(b"\x04\x01\0"), number(b"\x04\x02\0"));
+    assert_ne!(number(b"\x04\x01\0"), number(b"\x08\x01\0\x01\0"));
+    assert_ne!(number(b"\0"), number(b"\x04\x01\0"));
+}
+
+#[test]
 fn wrong_items_are_rejected() {
     use NodeReason::{NoSuchVariant, OutOfRange, WrongKind};
     let rejected = |reason, index| Err(Error::Node { reason, index });
