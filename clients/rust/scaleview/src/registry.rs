@@ -507,13 +507,10 @@ pub(crate) fn json_guess(bytes: u64) -> usize {
 
 impl fmt::Debug for Registry {
     fn fmt(&self, f: &mut fmt::Formatter<'_>) -> fmt::Result {
-        let Registry {
-            len, end, version, ..
-        } = self;
         f.debug_struct("Registry")
-            .field("len", len)
-            .field("end", end)
-            .field("version", version)
+            .field("len", &self.len)
+            .field("end", &self.end)
+            .field("version", &self.version())
             .finish_non_exhaustive()
     }
 }

@@ -158,13 +158,13 @@ impl Eq for Value<'_> {}
 
 impl fmt::Display for Value<'_> {
     fn fmt(&self, f: &mut fmt::Formatter<'_>) -> fmt::Result {
-        self.root().fmt(f)
+        fmt::Display::fmt(&self.root(), f)
     }
 }
 
 impl fmt::Debug for Value<'_> {
     fn fmt(&self, f: &mut fmt::Formatter<'_>) -> fmt::Result {
-        fmt::Debug::fmt(&self.root(), f)
+        write!(f, "Value({self} of type {})", self.type_id())
     }
 }
 
@@ -425,12 +425,12 @@ impl Eq for ValueRef<'_> {}
 
 impl fmt::Debug for ValueRef<'_> {
     fn fmt(&self, f: &mut fmt::Formatter<'_>) -> fmt::Result {
-        write!(f, "ValueRef({} of type {})", self, self.type_id())
+        write!(f, "ValueRef({self} of type {})", self.type_id())
     }
 }
 
 /// The parts of a value.
-#[derive(Clone, Debug)]
+#[derive(Clone)]
 pub struct Children<'a> {
     rest: ValueRef<'a>,
     left: u32,
@@ -466,8 +466,14 @@ impl<'a> Iterator for Children<'a> {
 
 impl ExactSizeIterator for Children<'_> {}
 
+impl fmt::Debug for Children<'_> {
+    fn fmt(&self, f: &mut fmt::Formatter<'_>) -> fmt::Result {
+        f.debug_list().entries(self.clone()).finish()
+    }
+}
+
 /// The fields of a value with their names.
-#[derive(Clone, Debug)]
+#[derive(Clone)]
 pub struct Fields<'a> {
     names: slice::Iter<'a, Field>,
     children: Children<'a>,
@@ -487,3 +493,9 @@ impl<'a> Iterator for Fields<'a> {
 }
 
 impl ExactSizeIterator for Fields<'_> {}
+
+impl fmt::Debug for Fields<'_> {
+    fn fmt(&self, f: &mut fmt::Formatter<'_>) -> fmt::Result {
+        f.debug_list().entries(self.clone()).finish()
+    }
+}

@@ -272,6 +272,43 @@ fn a_value_offers_what_its_view_does() {
 }
 
 #[test]
+fn debug_names_what_is_shown() {
+    let registry = numbers();
+    let value = registry.decode(20, b"\x08\x01\0\x02\0").unwrap();
+    assert_eq!(format!("{value:?}"), "Value([1,2] of type 20)");
+    assert_eq!(format!("{:?}", value.root()), "ValueRef([1,2] of type 20)");
+    let mut children = value.children();
+    assert_eq!(children.next().unwrap().as_u128(), Some(1));
+    assert_eq!(format!("{children:?}"), "[ValueRef(2 of type 4)]");
+    children.next();
+    assert_eq!(format!("{children:?} {:?}", value.fields()), "[] []");
+    let wrapped = registry.decode(16, &[1; 16]).unwrap();
+    let one = u128::from_le_bytes([1; 16]);
+    assert_eq!(
+        format!("{:?}", wrapped.fields()),
+        format!("[(None, ValueRef([\"{one}\"] of type 15))]")
+    );
+    let shown = format!("{registry:?}");
+    assert!(shown.contains("version: None"), "{shown}");
+}
+
+#[test]
+fn texts_are_padded() {
+    let registry = numbers();
+    let value = registry.decode(20, b"\x08\x01\0\x02\0").unwrap();
+    assert_eq!(
+        format!("{value:>7}|{:<6}|", value.root()),
+        "  [1,2]|[1,2] |"
+    );
+    assert_eq!(format!("{value:.2}"), "[1");
+    let truncated = registry.decode(20, b"\x04").unwrap_err();
+    assert_eq!(format!("{truncated:.^24}"), ".value: Truncated at 1..");
+    assert_eq!(format!("{:>8}", Error::Memory), "  memory");
+    let reason = NodeReason::TooDeep;
+    assert_eq!(format!("{reason:8}|"), "TooDeep |");
+}
+
+#[test]
 fn views_are_compared_by_what_they_hold() {
     let registry = numbers();
     let texts = Registry::open(b"\x0c\0\0\0\x05\x02\0\x04\0\0\x02\0\0\x08\0\0\x05\x02\0").unwrap();
