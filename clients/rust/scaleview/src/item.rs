@@ -30,6 +30,7 @@ use scaleview_sys::{self as sys, scaleview_node as Node};
 /// # }
 /// ```
 #[derive(Clone, Debug, PartialEq, Eq)]
+#[non_exhaustive]
 pub enum Item<'a> {
     /// The one value of a type that takes no bytes.
     Unit,

@@ -24,6 +24,7 @@ use std::sync::{Arc, Mutex, PoisonError};
 /// ```
 #[must_use = "the value may end inside the piece"]
 #[derive(Clone, Copy, Debug, PartialEq, Eq, Hash)]
+#[non_exhaustive]
 pub enum Progress {
     /// All bytes of the piece were taken, and the value is incomplete.
     More,

@@ -5,6 +5,7 @@ use crate::error::Error;
 use crate::registry::Registry;
 use crate::types::{Field, FieldList, Primitive, Type, TypeId};
 use scaleview_sys::{self as sys, scaleview_node as Node};
+use std::iter::FusedIterator;
 use std::{fmt, slice, str};
 
 /// A decoded value. It keeps its nodes and their bytes in one list each, and borrows its registry.
@@ -466,6 +467,8 @@ impl<'a> Iterator for Children<'a> {
 
 impl ExactSizeIterator for Children<'_> {}
 
+impl FusedIterator for Children<'_> {}
+
 impl fmt::Debug for Children<'_> {
     fn fmt(&self, f: &mut fmt::Formatter<'_>) -> fmt::Result {
         f.debug_list().entries(self.clone()).finish()
@@ -493,6 +496,8 @@ impl<'a> Iterator for Fields<'a> {
 }
 
 impl ExactSizeIterator for Fields<'_> {}
+
+impl FusedIterator for Fields<'_> {}
 
 impl fmt::Debug for Fields<'_> {
     fn fmt(&self, f: &mut fmt::Formatter<'_>) -> fmt::Result {

@@ -7,6 +7,7 @@ use scaleview::{
     Class, Error, Item, Kind, Limits, Memory, NodeReason, Primitive, Registry, TypeKind,
 };
 use std::fs;
+use std::iter::FusedIterator;
 use std::path::Path;
 use std::time::{Duration, Instant};
 
@@ -293,8 +294,38 @@ fn debug_names_what_is_shown() {
 }
 
 #[test]
+fn types_are_walked_from_both_ends() {
+    let registry = numbers();
+    let mut types = registry.types();
+    assert_eq!(types.next_back().map(|one| one.id()), Some(22));
+    assert_eq!(types.len(), 22);
+    let ids: Vec<_> = types.by_ref().rev().map(|one| one.id()).collect();
+    assert_eq!(ids, (0..22).rev().collect::<Vec<_>>());
+    assert!(types.next().is_none() && types.next_back().is_none());
+}
+
+#[test]
+fn iterators_that_ended_stay_ended() {
+    fn ends(mut parts: impl FusedIterator + ExactSizeIterator) {
+        for _ in 0..parts.len() {
+            assert!(parts.next().is_some());
+        }
+        assert!((0..3).all(|_| parts.next().is_none()));
+    }
+    let registry = numbers();
+    ends(registry.types());
+    let value = registry.decode(20, b"\x08\x01\0\x02\0").unwrap();
+    ends(value.children());
+    ends(registry.decode(15, &[1; 16]).unwrap().fields());
+}
+
+#[test]
 fn texts_are_padded() {
     let registry = numbers();
+    let types = [0, 18].map(|id| registry.get(id).unwrap());
+    let shown = types.map(|one| format!("{:>10}{:>6}", one.kind(), one.class()));
+    assert_eq!(shown, [" primitive Sized", "     tuple Empty"]);
+    assert_eq!(format!("{:<5}|", Primitive::I8), "i8   |");
     let value = registry.decode(20, b"\x08\x01\0\x02\0").unwrap();
     assert_eq!(
         format!("{value:>7}|{:<6}|", value.root()),
