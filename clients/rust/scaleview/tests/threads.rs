@@ -3,7 +3,7 @@
 mod common;
 
 use common::*;
-use scaleview::{Error, Limits, OwnedSession, Progress, Registry, Session, Value};
+use scaleview::{Error, Item, Limits, OwnedSession, Progress, Registry, Session, Value};
 use std::path::Path;
 use std::sync::{Arc, Barrier, OnceLock};
 use std::{fs, thread};
@@ -182,6 +182,24 @@ fn a_small_stack_is_enough_for_the_default_depth() {
                 .all(|length| *length == lengths[0] && *length > 64 * 11)
         );
     }
+}
+
+/// The documents of `Item` promise these depths.
+#[test]
+fn a_stack_of_two_mebibytes_holds_deep_items() {
+    let item = |depth| {
+        (0..depth).fold(Item::Unit, |inner, _| {
+            Item::named_variant("Next", [("a", inner)])
+        })
+    };
+    with_stack(2 << 20, move || drop(item(8_000)));
+    with_stack(2 << 20, move || {
+        let item = item(1_200);
+        assert!(item.clone() == item);
+        assert_eq!(format!("{item:?}").matches("Next").count(), 1_200);
+    });
+    let page = include_str!("../src/item.rs");
+    assert!(page.contains("holds 8,000 levels to drop and 1,200 to clone, compare or format"));
 }
 
 /// What this crate does itself takes no stack for a level, nor do the calls for nodes.
