@@ -8,6 +8,7 @@ use crate::types::TypeId;
 use crate::value::Value;
 use scaleview_sys::{self as sys, scaleview_answer as Answer, scaleview_session as Handle};
 use std::fmt;
+use std::ops::Deref;
 use std::sync::{Arc, Mutex, PoisonError};
 
 /// How far a value is.
@@ -43,21 +44,40 @@ struct Raw(Handle);
 unsafe impl Send for Raw {}
 
 mod sealed {
-    use crate::Registry;
-    use std::sync::Arc;
-
-    /// What keeps a registry open, at one place: a borrow of it, or a share.
-    pub trait Keeps: std::ops::Deref<Target = Registry> {}
-    impl Keeps for &Registry {}
-    impl Keeps for Arc<Registry> {}
+    /// No other crate may implement [`RegistryRef`](super::RegistryRef): a session's registry must
+    /// stay open, at one place.
+    pub trait Sealed {}
 }
 
-use sealed::Keeps;
+/// A reference that keeps a registry open: `&Registry` or `Arc<Registry>`. No other type can
+/// implement it.
+pub trait RegistryRef: sealed::Sealed + Deref<Target = Registry> {}
+
+impl sealed::Sealed for &Registry {}
+impl RegistryRef for &Registry {}
+impl sealed::Sealed for Arc<Registry> {}
+impl RegistryRef for Arc<Registry> {}
 
 /// A value in progress, as [`Session`] and [`OwnedSession`] are. It is freed when it is dropped.
 ///
 /// Sessions of one registry may be on several threads, and take pieces at the same time.
-pub struct AnySession<R: Keeps> {
+///
+/// A function may take sessions of both kinds:
+///
+/// ```
+/// use scaleview::{AnySession, Error, Limits, Progress, Registry, RegistryRef};
+/// use std::sync::Arc;
+/// fn is_done<R: RegistryRef>(session: &mut AnySession<R>, piece: &[u8]) -> Result<bool, Error> {
+///     Ok(matches!(session.feed(piece)?, Progress::Done { .. }))
+/// }
+/// # fn main() -> Result<(), Error> {
+/// let registry = Arc::new(Registry::open(b"\x04\x00\x00\x00\x05\x03\x00")?);
+/// assert!(is_done(&mut registry.start(0, Limits::new())?, b"\x2a")?);
+/// assert!(is_done(&mut registry.start_owned(0, Limits::new())?, b"\x2a")?);
+/// # Ok(())
+/// # }
+/// ```
+pub struct AnySession<R: RegistryRef> {
     raw: Mutex<Raw>,
     registry: R,
 }
@@ -99,7 +119,7 @@ pub type Session<'r> = AnySession<&'r Registry>;
 /// ```
 pub type OwnedSession = AnySession<Arc<Registry>>;
 
-impl<R: Keeps> AnySession<R> {
+impl<R: RegistryRef> AnySession<R> {
     pub(crate) fn over(registry: R, id: TypeId, limits: Limits) -> Result<AnySession<R>, Error> {
         let Limits { depth, bytes, .. } = limits;
         // The length of all pieces isn't known yet, and the limit bounds it.
@@ -236,7 +256,7 @@ impl OwnedSession {
     }
 }
 
-impl<R: Keeps> fmt::Debug for AnySession<R> {
+impl<R: RegistryRef> fmt::Debug for AnySession<R> {
     fn fmt(&self, f: &mut fmt::Formatter<'_>) -> fmt::Result {
         f.debug_struct("Session")
             .field("taken", &self.taken())
@@ -244,7 +264,7 @@ impl<R: Keeps> fmt::Debug for AnySession<R> {
     }
 }
 
-impl<R: Keeps> Drop for AnySession<R> {
+impl<R: RegistryRef> Drop for AnySession<R> {
     fn drop(&mut self) {
         // SAFETY: as in `feed`; no other session is started or freed, and no call follows.
         self.registry
