@@ -37,6 +37,8 @@ pub enum Memory {
     ///
     /// The input of a session is as long as its limit of bytes. That of an encoding has 32 bytes
     /// for each node, and the bytes of its texts and byte runs.
+    ///
+    /// A value of more than a mebibyte with three or more parts for each byte may exceed it.
     #[default]
     ByInput,
     /// So many bytes.
