@@ -53,13 +53,14 @@ fn feed(session: &mut Session, value: &[u8], step: usize) -> Result<(), Error> {
         if let Progress::Done { used } = session.feed(piece)? {
             place += used;
             let reason = ValueReason::TrailingBytes;
-            return if place < value.len() as u64 {
+            return if place < value.len() {
+                let place = place as u64;
                 Err(Error::Value { reason, place })
             } else {
                 Ok(())
             };
         }
-        place += piece.len() as u64;
+        place += piece.len();
     }
     Ok(())
 }

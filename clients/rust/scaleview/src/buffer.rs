@@ -5,6 +5,8 @@ use scaleview_sys::{
     SCALEVIEW_MEMORY as MEMORY, SCALEVIEW_NO_ROOM as NO_ROOM, SCALEVIEW_OK as OK,
     scaleview_answer as Answer, scaleview_node as Node,
 };
+use std::fmt::{self, Write};
+use std::str;
 
 /// The answer of a call for which an allocation of this crate failed.
 fn no_memory() -> Answer {
@@ -33,6 +35,26 @@ pub(crate) fn extend(vector: &mut Vec<u8>, bytes: &[u8]) -> Result<(), Error> {
     vector.try_reserve(bytes.len()).map_err(|_| Error::Memory)?;
     vector.extend_from_slice(bytes);
     Ok(())
+}
+
+/// Text that is written without an abort if an allocation fails.
+struct Text(Vec<u8>);
+
+impl fmt::Write for Text {
+    fn write_str(&mut self, text: &str) -> fmt::Result {
+        extend(&mut self.0, text.as_bytes()).map_err(|_| fmt::Error)
+    }
+}
+
+/// Writes a text with the width and the precision of the formatter.
+pub(crate) fn pad(f: &mut fmt::Formatter<'_>, text: fmt::Arguments<'_>) -> fmt::Result {
+    // Most texts have neither, and are written without memory.
+    if f.width().is_none() && f.precision().is_none() {
+        return f.write_fmt(text);
+    }
+    let mut whole = Text(Vec::new());
+    whole.write_fmt(text)?;
+    f.pad(str::from_utf8(&whole.0).map_err(|_| fmt::Error)?)
 }
 
 /// Replaces a vector that is less than half full by one without spare capacity, if there is memory

@@ -1,5 +1,6 @@
 //! Why there is no answer, and where.
 
+use crate::buffer::pad;
 use scaleview_sys::{self as sys, scaleview_answer as Answer};
 use std::fmt;
 
@@ -31,7 +32,7 @@ macro_rules! reasons {
         impl fmt::Display for $name {
             fn fmt(&self, f: &mut fmt::Formatter<'_>) -> fmt::Result {
                 match self {
-                    $($name::$reason => f.write_str(stringify!($reason)),)+
+                    $($name::$reason => f.pad(stringify!($reason)),)+
                 }
             }
         }
@@ -153,7 +154,7 @@ pub enum Error {
         /// The position of the field in its type.
         field: u32,
     },
-    /// An allocation failed, or would have exceeded [`Limits::memory`](crate::Limits::memory).
+    /// An allocation failed, or would have exceeded the budget of [`Limits`](crate::Limits).
     Memory,
     /// The library that is linked is of another version than this crate, by
     /// [`scaleview_sys::scaleview_version`].
@@ -212,23 +213,25 @@ impl Error {
 impl fmt::Display for Error {
     fn fmt(&self, f: &mut fmt::Formatter<'_>) -> fmt::Result {
         match self {
-            Error::Registry { reason, place } => write!(f, "registry: {reason} at {place}"),
-            Error::UnknownReference { from, to } => {
-                write!(f, "check: UnknownType {to} in type {from}")
+            Error::Registry { reason, place } => {
+                pad(f, format_args!("registry: {reason} at {place}"))
             }
-            Error::UnknownType { id } => write!(f, "type: UnknownType {id}"),
-            Error::LimitOutOfRange => f.write_str("limits: LimitOutOfRange"),
-            Error::Value { reason, place } => write!(f, "value: {reason} at {place}"),
-            Error::Node { reason, index } => write!(f, "node: {reason} at {index}"),
+            Error::UnknownReference { from, to } => {
+                pad(f, format_args!("check: UnknownType {to} in type {from}"))
+            }
+            Error::UnknownType { id } => pad(f, format_args!("type: UnknownType {id}")),
+            Error::LimitOutOfRange => f.pad("limits: LimitOutOfRange"),
+            Error::Value { reason, place } => pad(f, format_args!("value: {reason} at {place}")),
+            Error::Node { reason, index } => pad(f, format_args!("node: {reason} at {index}")),
             Error::UnknownField { index, field } => {
-                write!(f, "node: UnknownField {field} at {index}")
+                pad(f, format_args!("node: UnknownField {field} at {index}"))
             }
             Error::MissingField { index, field } => {
-                write!(f, "node: MissingField {field} at {index}")
+                pad(f, format_args!("node: MissingField {field} at {index}"))
             }
-            Error::Memory => f.write_str("memory"),
-            Error::Version { found } => write!(f, "library: version {found}"),
-            Error::Library { code } => write!(f, "library: code {code}"),
+            Error::Memory => f.pad("memory"),
+            Error::Version { found } => pad(f, format_args!("library: version {found}")),
+            Error::Library { code } => pad(f, format_args!("library: code {code}")),
         }
     }
 }

@@ -14,6 +14,10 @@ use scaleview_sys::{self as sys, scaleview_node as Node};
 /// enough for integers of all widths, compact ones too, and fields and variants are found by their
 /// names.
 ///
+/// Drop, clone, `==` and `{:?}` recurse once for each level; encoding does not, and takes at most
+/// 1024. A stack of 2 MiB holds 8,000 levels to drop and 1,200 to clone, compare or format, without
+/// optimization too. A program that builds an item from untrusted input must bound its depth.
+///
 /// ```
 /// # use scaleview::{Error, Item, Registry};
 /// # fn main() -> Result<(), Error> {
@@ -30,6 +34,7 @@ use scaleview_sys::{self as sys, scaleview_node as Node};
 /// # }
 /// ```
 #[derive(Clone, Debug, PartialEq, Eq)]
+#[non_exhaustive]
 pub enum Item<'a> {
     /// The one value of a type that takes no bytes.
     Unit,

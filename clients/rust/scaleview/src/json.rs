@@ -61,10 +61,19 @@ struct Open<'a> {
 }
 
 impl fmt::Display for ValueRef<'_> {
+    fn fmt(&self, f: &mut fmt::Formatter<'_>) -> fmt::Result {
+        buffer::pad(f, format_args!("{}", Json(*self)))
+    }
+}
+
+/// Displays as JSON, whatever the width.
+struct Json<'a>(ValueRef<'a>);
+
+impl fmt::Display for Json<'_> {
     // The open arrays and objects are on the heap, so that the stack doesn't bound the depth.
     fn fmt(&self, f: &mut fmt::Formatter<'_>) -> fmt::Result {
         let mut open = Vec::new();
-        begin(f, &mut open, *self)?;
+        begin(f, &mut open, self.0)?;
         while let Some(last) = open.last_mut() {
             let Some((name, child)) = last.rest.next() else {
                 f.write_str(last.rest.brackets().1)?;

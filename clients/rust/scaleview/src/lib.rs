@@ -45,8 +45,8 @@ mod value;
 
 pub use error::{Error, NodeReason, RegistryReason, ValueReason};
 pub use item::{Item, Source};
-pub use limits::Limits;
+pub use limits::{Limits, Memory};
 pub use registry::Registry;
-pub use session::{AnySession, OwnedSession, Progress, Session};
+pub use session::{AnySession, OwnedSession, Progress, RegistryRef, Session};
 pub use types::{Class, Field, Primitive, Type, TypeId, TypeKind, Types, Variant};
 pub use value::{Children, Fields, Kind, Value, ValueRef};

@@ -3,6 +3,9 @@
 /// How deep a value may be, how many bytes it may have, and how much memory the library may use for
 /// it.
 ///
+/// The default is a depth of 64, 16777216 bytes, and [`Memory::ByInput`]: 64 MiB of memory and 64
+/// times the length of the input.
+///
 /// ```
 /// # use scaleview::{Error, Limits, Registry};
 /// # fn main() -> Result<(), Error> {
@@ -19,18 +22,39 @@ pub struct Limits {
     pub depth: u16,
     /// The greatest number of a value's bytes.
     pub bytes: u64,
-    /// The most bytes that the library allocates at once for a value and its text, or 0.
-    pub memory: u64,
+    /// The budget of memory.
+    pub memory: Memory,
+}
+
+/// The most bytes that the library allocates at once for a value and its text.
+///
+/// What this crate returns comes in addition: a text's bytes, or 32 bytes for each node of a value,
+/// and once for each type of the registry its names.
+#[derive(Clone, Copy, Debug, Default, PartialEq, Eq, Hash)]
+#[non_exhaustive]
+pub enum Memory {
+    /// 64 MiB and 64 times the length of the input.
+    ///
+    /// The input of a session is as long as its limit of bytes. That of an encoding has 32 bytes
+    /// for each node, and the bytes of its texts and byte runs.
+    ///
+    /// A value of more than a mebibyte with three or more parts for each byte may exceed it.
+    #[default]
+    ByInput,
+    /// So many bytes.
+    AtMost(u64),
+    /// No budget. A few bytes of untrusted input can then take gigabytes, since a value may have
+    /// many parts of no bytes.
+    Unbounded,
 }
 
 impl Limits {
-    /// Returns the default limits: depth 64 and 16777216 bytes, as the command has them, and no
-    /// budget of memory.
+    /// Returns the default limits.
     pub const fn new() -> Limits {
         Limits {
             depth: 64,
             bytes: 16_777_216,
-            memory: 0,
+            memory: Memory::ByInput,
         }
     }
 
@@ -49,14 +73,33 @@ impl Limits {
         Limits { bytes, ..self }
     }
 
-    /// Sets the most bytes that the library allocates at once for a value and its text; 0 stands
-    /// for no budget.
-    ///
-    /// What this crate returns comes in addition: a text's bytes, or 32 bytes for each node of a
-    /// value, and once for each type of the registry its names.
+    /// Sets the budget to [`Memory::AtMost`] so many bytes, or to [`Memory::Unbounded`] for 0.
     #[must_use]
     pub const fn memory(self, memory: u64) -> Limits {
+        let memory = match memory {
+            0 => Memory::Unbounded,
+            most => Memory::AtMost(most),
+        };
         Limits { memory, ..self }
+    }
+
+    /// Sets the budget to [`Memory::Unbounded`].
+    #[must_use]
+    pub const fn unbounded_memory(self) -> Limits {
+        Limits {
+            memory: Memory::Unbounded,
+            ..self
+        }
+    }
+
+    /// Returns the library's number for the budget of an input of this length.
+    pub(crate) fn budget(self, length: u64) -> u64 {
+        match self.memory {
+            Memory::ByInput => length.saturating_mul(64).saturating_add(64 << 20),
+            // The library takes 0 for no budget.
+            Memory::AtMost(most) => most.max(1),
+            Memory::Unbounded => 0,
+        }
     }
 }
 

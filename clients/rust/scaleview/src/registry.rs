@@ -306,7 +306,8 @@ impl Registry {
     }
 
     /// Decodes the value, of the type at this position, that all the bytes spell, within the
-    /// default limits.
+    /// default limits. They bound the library's memory by 64 MiB and 64 times the length of
+    /// `bytes`, and [`Limits::unbounded_memory`] lifts that.
     ///
     /// # Errors
     /// `UnknownType`, `Value` with the reason and the place, `Memory`.
@@ -324,11 +325,8 @@ impl Registry {
         bytes: &[u8],
         limits: Limits,
     ) -> Result<Value<'_>, Error> {
-        let Limits {
-            depth,
-            bytes: limit,
-            memory,
-        } = limits;
+        let (depth, limit) = (limits.depth, limits.bytes);
+        let memory = limits.budget(bytes.len() as u64);
         let call = |nodes, node_room, pool, pool_room, answer: &mut Answer| {
             // SAFETY: the registry is open; the slice and the places are
             // this call's.
@@ -381,11 +379,8 @@ impl Registry {
         bytes: &[u8],
         limits: Limits,
     ) -> Result<String, Error> {
-        let Limits {
-            depth,
-            bytes: limit,
-            memory,
-        } = limits;
+        let (depth, limit) = (limits.depth, limits.bytes);
+        let memory = limits.budget(bytes.len() as u64);
         let call = |out, room, answer: &mut Answer| {
             // SAFETY: the registry is open; the slice and the places are
             // this call's.
@@ -455,7 +450,9 @@ impl Registry {
         pool: &[u8],
         limits: Limits,
     ) -> Result<Vec<u8>, Error> {
-        let Limits { depth, memory, .. } = limits;
+        let depth = limits.depth;
+        let length = size_of_val(nodes).saturating_add(pool.len());
+        let memory = limits.budget(length as u64);
         let call = |out, room, answer: &mut Answer| {
             // SAFETY: the registry is open; the slices and the places are
             // this call's.
@@ -510,13 +507,10 @@ pub(crate) fn json_guess(bytes: u64) -> usize {
 
 impl fmt::Debug for Registry {
     fn fmt(&self, f: &mut fmt::Formatter<'_>) -> fmt::Result {
-        let Registry {
-            len, end, version, ..
-        } = self;
         f.debug_struct("Registry")
-            .field("len", len)
-            .field("end", end)
-            .field("version", version)
+            .field("len", &self.len)
+            .field("end", &self.end)
+            .field("version", &self.version())
             .finish_non_exhaustive()
     }
 }

@@ -8,17 +8,31 @@ use crate::types::TypeId;
 use crate::value::Value;
 use scaleview_sys::{self as sys, scaleview_answer as Answer, scaleview_session as Handle};
 use std::fmt;
+use std::ops::Deref;
 use std::sync::{Arc, Mutex, PoisonError};
 
 /// How far a value is.
+///
+/// A piece may go on after the value, so the compiler warns if this is dropped unread:
+///
+/// ```compile_fail
+/// #![deny(unused_must_use)]
+/// # fn main() -> Result<(), scaleview::Error> {
+/// let registry = scaleview::Registry::open(b"\x04\x00\x00\x00\x05\x03\x00")?;
+/// registry.start(0, Default::default())?.feed(b"\x2a\xff")?;
+/// # Ok(())
+/// # }
+/// ```
+#[must_use = "the value may end inside the piece"]
 #[derive(Clone, Copy, Debug, PartialEq, Eq, Hash)]
+#[non_exhaustive]
 pub enum Progress {
     /// All bytes of the piece were taken, and the value is incomplete.
     More,
     /// The value is complete.
     Done {
         /// How many bytes of this piece belong to it.
-        used: u64,
+        used: usize,
     },
 }
 
@@ -30,21 +44,40 @@ struct Raw(Handle);
 unsafe impl Send for Raw {}
 
 mod sealed {
-    use crate::Registry;
-    use std::sync::Arc;
-
-    /// What keeps a registry open, at one place: a borrow of it, or a share.
-    pub trait Keeps: std::ops::Deref<Target = Registry> {}
-    impl Keeps for &Registry {}
-    impl Keeps for Arc<Registry> {}
+    /// No other crate may implement [`RegistryRef`](super::RegistryRef): a session's registry must
+    /// stay open, at one place.
+    pub trait Sealed {}
 }
 
-use sealed::Keeps;
+/// A reference that keeps a registry open: `&Registry` or `Arc<Registry>`. No other type can
+/// implement it.
+pub trait RegistryRef: sealed::Sealed + Deref<Target = Registry> {}
+
+impl sealed::Sealed for &Registry {}
+impl RegistryRef for &Registry {}
+impl sealed::Sealed for Arc<Registry> {}
+impl RegistryRef for Arc<Registry> {}
 
 /// A value in progress, as [`Session`] and [`OwnedSession`] are. It is freed when it is dropped.
 ///
 /// Sessions of one registry may be on several threads, and take pieces at the same time.
-pub struct AnySession<R: Keeps> {
+///
+/// A function may take sessions of both kinds:
+///
+/// ```
+/// use scaleview::{AnySession, Error, Limits, Progress, Registry, RegistryRef};
+/// use std::sync::Arc;
+/// fn is_done<R: RegistryRef>(session: &mut AnySession<R>, piece: &[u8]) -> Result<bool, Error> {
+///     Ok(matches!(session.feed(piece)?, Progress::Done { .. }))
+/// }
+/// # fn main() -> Result<(), Error> {
+/// let registry = Arc::new(Registry::open(b"\x04\x00\x00\x00\x05\x03\x00")?);
+/// assert!(is_done(&mut registry.start(0, Limits::new())?, b"\x2a")?);
+/// assert!(is_done(&mut registry.start_owned(0, Limits::new())?, b"\x2a")?);
+/// # Ok(())
+/// # }
+/// ```
+pub struct AnySession<R: RegistryRef> {
     raw: Mutex<Raw>,
     registry: R,
 }
@@ -70,14 +103,14 @@ pub type Session<'r> = AnySession<&'r Registry>;
 ///
 /// ```
 /// # fn main() -> Result<(), scaleview::Error> {
-/// use scaleview::{Limits, OwnedSession, Registry};
+/// use scaleview::{Limits, OwnedSession, Progress, Registry};
 /// use std::sync::Arc;
 /// struct Reader { registry: Arc<Registry>, session: OwnedSession }
 /// let registry = Arc::new(Registry::open(b"\x04\x00\x00\x00\x05\x04\x00")?);
 /// let session = registry.start_owned(0, Limits::new())?;
 /// let mut reader = Reader { registry, session };
 /// let text = std::thread::spawn(move || {
-///     reader.session.feed(b"\x2a\x00")?;
+///     assert_eq!(reader.session.feed(b"\x2a\x00")?, Progress::Done { used: 2 });
 ///     reader.session.finish_json()
 /// });
 /// assert_eq!(text.join().unwrap()?, "42");
@@ -86,13 +119,11 @@ pub type Session<'r> = AnySession<&'r Registry>;
 /// ```
 pub type OwnedSession = AnySession<Arc<Registry>>;
 
-impl<R: Keeps> AnySession<R> {
+impl<R: RegistryRef> AnySession<R> {
     pub(crate) fn over(registry: R, id: TypeId, limits: Limits) -> Result<AnySession<R>, Error> {
-        let Limits {
-            depth,
-            bytes,
-            memory,
-        } = limits;
+        let Limits { depth, bytes, .. } = limits;
+        // The length of all pieces isn't known yet, and the limit bounds it.
+        let memory = limits.budget(bytes);
         let (mut handle, mut answer) = (
             Handle {
                 inside: std::ptr::null_mut(),
@@ -131,6 +162,7 @@ impl<R: Keeps> AnySession<R> {
     /// # Errors
     /// `Value` with the reason and the place in all pieces, `Memory`. Every later call returns the
     /// same.
+    #[must_use = "a piece may be rejected, and the value may end inside it"]
     pub fn feed(&mut self, piece: &[u8]) -> Result<Progress, Error> {
         let mut answer = Answer::default();
         // SAFETY: the handle is a session's, and this call has it alone; the slice and the place
@@ -140,8 +172,9 @@ impl<R: Keeps> AnySession<R> {
         });
         match code {
             sys::SCALEVIEW_MORE => Ok(Progress::More),
+            // At most the length of the piece.
             sys::SCALEVIEW_OK => Ok(Progress::Done {
-                used: answer.length,
+                used: answer.length as usize,
             }),
             _ => Err(Error::of(answer)),
         }
@@ -223,7 +256,7 @@ impl OwnedSession {
     }
 }
 
-impl<R: Keeps> fmt::Debug for AnySession<R> {
+impl<R: RegistryRef> fmt::Debug for AnySession<R> {
     fn fmt(&self, f: &mut fmt::Formatter<'_>) -> fmt::Result {
         f.debug_struct("Session")
             .field("taken", &self.taken())
@@ -231,7 +264,7 @@ impl<R: Keeps> fmt::Debug for AnySession<R> {
     }
 }
 
-impl<R: Keeps> Drop for AnySession<R> {
+impl<R: RegistryRef> Drop for AnySession<R> {
     fn drop(&mut self) {
         // SAFETY: as in `feed`; no other session is started or freed, and no call follows.
         self.registry

@@ -4,6 +4,7 @@ use crate::error::Error;
 use crate::registry::Registry;
 use scaleview_sys::{self as sys, scaleview_type_shape as Shape};
 use std::fmt;
+use std::iter::FusedIterator;
 use std::ops::Range;
 
 /// The position of a type in its registry.
@@ -31,6 +32,22 @@ pub enum TypeKind {
     BitSequence,
 }
 
+/// Displays as the command prints it.
+impl fmt::Display for TypeKind {
+    fn fmt(&self, f: &mut fmt::Formatter<'_>) -> fmt::Result {
+        f.pad(match self {
+            TypeKind::Composite => "composite",
+            TypeKind::Variant => "variant",
+            TypeKind::Sequence => "sequence",
+            TypeKind::Array => "array",
+            TypeKind::Tuple => "tuple",
+            TypeKind::Primitive => "primitive",
+            TypeKind::Compact => "compact",
+            TypeKind::BitSequence => "bitsequence",
+        })
+    }
+}
+
 /// How many bytes the values of a type take.
 #[derive(Clone, Copy, Debug, PartialEq, Eq, Hash)]
 #[non_exhaustive]
@@ -41,6 +58,17 @@ pub enum Class {
     Empty,
     /// The values take bytes.
     Sized,
+}
+
+/// Displays as the command prints it.
+impl fmt::Display for Class {
+    fn fmt(&self, f: &mut fmt::Formatter<'_>) -> fmt::Result {
+        f.pad(match self {
+            Class::NoValue => "NoValue",
+            Class::Empty => "Empty",
+            Class::Sized => "Sized",
+        })
+    }
 }
 
 /// A primitive type, in the order of scale-info's `TypeDefPrimitive`.
@@ -72,6 +100,29 @@ impl Primitive {
             Bool, Char, Str, U8, U16, U32, U64, U128, U256, I8, I16, I32, I64, I128, I256,
         ];
         ALL.get(number as usize).copied()
+    }
+}
+
+/// Displays as the command prints it.
+impl fmt::Display for Primitive {
+    fn fmt(&self, f: &mut fmt::Formatter<'_>) -> fmt::Result {
+        f.pad(match self {
+            Primitive::Bool => "bool",
+            Primitive::Char => "char",
+            Primitive::Str => "str",
+            Primitive::U8 => "u8",
+            Primitive::U16 => "u16",
+            Primitive::U32 => "u32",
+            Primitive::U64 => "u64",
+            Primitive::U128 => "u128",
+            Primitive::U256 => "u256",
+            Primitive::I8 => "i8",
+            Primitive::I16 => "i16",
+            Primitive::I32 => "i32",
+            Primitive::I64 => "i64",
+            Primitive::I128 => "i128",
+            Primitive::I256 => "i256",
+        })
     }
 }
 
@@ -273,4 +324,12 @@ impl<'r> Iterator for Types<'r> {
     }
 }
 
+impl DoubleEndedIterator for Types<'_> {
+    fn next_back(&mut self) -> Option<Self::Item> {
+        self.rest.next_back().and_then(|id| self.registry.get(id))
+    }
+}
+
 impl ExactSizeIterator for Types<'_> {}
+
+impl FusedIterator for Types<'_> {}

@@ -3,8 +3,9 @@
 use crate::describe::Details;
 use crate::error::Error;
 use crate::registry::Registry;
-use crate::types::{Field, FieldList, Type, TypeId};
+use crate::types::{Field, FieldList, Primitive, Type, TypeId};
 use scaleview_sys::{self as sys, scaleview_node as Node};
+use std::iter::FusedIterator;
 use std::{fmt, slice, str};
 
 /// A decoded value. It keeps its nodes and their bytes in one list each, and borrows its registry.
@@ -76,6 +77,11 @@ impl<'r> Value<'r> {
         self.root().type_id()
     }
 
+    /// Does what [`ValueRef::ty`] does.
+    pub fn ty(&self) -> Option<Type<'_>> {
+        self.root().ty()
+    }
+
     /// Does what [`ValueRef::kind`] does.
     pub fn kind(&self) -> Kind<'_> {
         self.root().kind()
@@ -101,14 +107,34 @@ impl<'r> Value<'r> {
         self.root().get(name)
     }
 
+    /// Does what [`ValueRef::variant_name`] does.
+    pub fn variant_name(&self) -> Option<&str> {
+        self.root().variant_name()
+    }
+
     /// Does what [`ValueRef::variant`] does.
     pub fn variant(&self) -> Option<(&str, Children<'_>)> {
         self.root().variant()
     }
 
+    /// Does what [`ValueRef::as_bool`] does.
+    pub fn as_bool(&self) -> Option<bool> {
+        self.root().as_bool()
+    }
+
+    /// Does what [`ValueRef::as_char`] does.
+    pub fn as_char(&self) -> Option<char> {
+        self.root().as_char()
+    }
+
     /// Does what [`ValueRef::as_u128`] does.
     pub fn as_u128(&self) -> Option<u128> {
         self.root().as_u128()
+    }
+
+    /// Does what [`ValueRef::as_i128`] does.
+    pub fn as_i128(&self) -> Option<i128> {
+        self.root().as_i128()
     }
 
     /// Does what [`ValueRef::as_str`] does.
@@ -122,11 +148,10 @@ impl<'r> Value<'r> {
     }
 }
 
-/// Two values are equal if their nodes and bytes are, types included; the registries aren't
-/// compared.
+/// Two values are equal if their views are.
 impl PartialEq for Value<'_> {
     fn eq(&self, other: &Value<'_>) -> bool {
-        self.nodes == other.nodes && self.pool == other.pool
+        self.root() == other.root()
     }
 }
 
@@ -134,13 +159,13 @@ impl Eq for Value<'_> {}
 
 impl fmt::Display for Value<'_> {
     fn fmt(&self, f: &mut fmt::Formatter<'_>) -> fmt::Result {
-        self.root().fmt(f)
+        fmt::Display::fmt(&self.root(), f)
     }
 }
 
 impl fmt::Debug for Value<'_> {
     fn fmt(&self, f: &mut fmt::Formatter<'_>) -> fmt::Result {
-        fmt::Debug::fmt(&self.root(), f)
+        write!(f, "Value({self} of type {})", self.type_id())
     }
 }
 
@@ -347,11 +372,18 @@ impl<'a> ValueRef<'a> {
         }
     }
 
-    /// Returns an integer of at most 128 bits, if it is in range.
+    /// Returns an integer of any width, if it is in the range of an `i128`.
     pub fn as_i128(self) -> Option<i128> {
         match self.kind() {
             Kind::Unsigned(number) | Kind::Compact(number) => i128::try_from(number).ok(),
             Kind::Signed(number) => Some(number),
+            Kind::Wide(bytes) => {
+                let (low, high) = bytes.split_first_chunk::<16>()?;
+                let number = i128::from_le_bytes(*low);
+                let sign = if number < 0 { 0xff } else { 0 };
+                let may_be = number >= 0 || self.ty()?.primitive() == Some(Primitive::I256);
+                (may_be && high.iter().all(|byte| *byte == sign)).then_some(number)
+            }
             _ => None,
         }
     }
@@ -375,14 +407,31 @@ impl<'a> ValueRef<'a> {
     }
 }
 
+/// Two views are equal if their types and what they hold are; the registries aren't compared.
+impl PartialEq for ValueRef<'_> {
+    fn eq(&self, other: &ValueRef<'_>) -> bool {
+        let is_same = |(one, its): (&Node, &Node)| match one.kind {
+            // Equal bytes may lie at different places of the pools.
+            sys::SCALEVIEW_NODE_TEXT | sys::SCALEVIEW_NODE_BYTES | sys::SCALEVIEW_NODE_WIDE => {
+                (one.kind, one.r#type) == (its.kind, its.r#type)
+                    && self.bytes(*one) == other.bytes(*its)
+            }
+            _ => one == its,
+        };
+        self.nodes.len() == other.nodes.len() && self.nodes.iter().zip(other.nodes).all(is_same)
+    }
+}
+
+impl Eq for ValueRef<'_> {}
+
 impl fmt::Debug for ValueRef<'_> {
     fn fmt(&self, f: &mut fmt::Formatter<'_>) -> fmt::Result {
-        write!(f, "ValueRef({} of type {})", self, self.type_id())
+        write!(f, "ValueRef({self} of type {})", self.type_id())
     }
 }
 
 /// The parts of a value.
-#[derive(Clone, Debug)]
+#[derive(Clone)]
 pub struct Children<'a> {
     rest: ValueRef<'a>,
     left: u32,
@@ -418,8 +467,16 @@ impl<'a> Iterator for Children<'a> {
 
 impl ExactSizeIterator for Children<'_> {}
 
+impl FusedIterator for Children<'_> {}
+
+impl fmt::Debug for Children<'_> {
+    fn fmt(&self, f: &mut fmt::Formatter<'_>) -> fmt::Result {
+        f.debug_list().entries(self.clone()).finish()
+    }
+}
+
 /// The fields of a value with their names.
-#[derive(Clone, Debug)]
+#[derive(Clone)]
 pub struct Fields<'a> {
     names: slice::Iter<'a, Field>,
     children: Children<'a>,
@@ -439,3 +496,11 @@ impl<'a> Iterator for Fields<'a> {
 }
 
 impl ExactSizeIterator for Fields<'_> {}
+
+impl FusedIterator for Fields<'_> {}
+
+impl fmt::Debug for Fields<'_> {
+    fn fmt(&self, f: &mut fmt::Formatter<'_>) -> fmt::Result {
+        f.debug_list().entries(self.clone()).finish()
+    }
+}

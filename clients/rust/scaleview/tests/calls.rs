@@ -274,6 +274,17 @@ fn a_budget_of_memory_is_kept() {
 }
 
 #[test]
+fn the_used_bytes_split_a_piece() {
+    let registry = Registry::open(U16).unwrap();
+    let mut session = registry.start(0, Limits::new()).unwrap();
+    let piece = b"\x02\x00\xff".as_slice();
+    let Progress::Done { used } = session.feed(piece).unwrap() else {
+        panic!("the value is complete")
+    };
+    assert_eq!(piece.split_at(used), (&b"\x02\x00"[..], &b"\xff"[..]));
+}
+
+#[test]
 fn an_answer_is_kept() {
     let registry = Registry::open(U16).unwrap();
     let mut whole = registry.start(0, Limits::new()).unwrap();

@@ -18,7 +18,7 @@ fn check_value(registry: &Registry, id: u32, bytes: &[u8], json: &str) {
     assert_eq!(registry.encode(id, &value).unwrap(), bytes);
     let mut session = registry.start(id, Limits::new()).unwrap();
     for piece in bytes.chunks(5) {
-        session.feed(piece).unwrap();
+        let _ = session.feed(piece).unwrap();
     }
     assert_eq!(session.finish().unwrap(), value);
     assert_eq!(session.finish_json().unwrap(), json);

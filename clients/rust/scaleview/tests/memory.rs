@@ -131,7 +131,7 @@ fn each_allocation_may_fail() {
     );
     check("encode an item", || registry.encode(0, &item));
     let mut session = registry.start(0, Limits::new()).unwrap();
-    session.feed(&value).unwrap();
+    let _ = session.feed(&value).unwrap();
     check("finish", || session.finish().map(|_| ()));
     check("finish_json", || session.finish_json());
     assert_eq!(session.finish_json(), Ok(decoded.to_string()));

@@ -3,7 +3,7 @@
 mod common;
 
 use common::*;
-use scaleview::{Error, Limits, OwnedSession, Progress, Registry, Session, Value};
+use scaleview::{Error, Item, Limits, OwnedSession, Progress, Registry, Session, Value};
 use std::path::Path;
 use std::sync::{Arc, Barrier, OnceLock};
 use std::{fs, thread};
@@ -87,7 +87,7 @@ fn a_struct_owns_a_registry_and_its_session() {
 fn make(registry: &Registry, id: u32, bytes: &[u8], step: usize) -> [String; 3] {
     let mut session = registry.start(id, Limits::new()).unwrap();
     for piece in bytes.chunks(step) {
-        session.feed(piece).unwrap();
+        let _ = session.feed(piece).unwrap();
     }
     assert_eq!(session.taken(), bytes.len() as u64);
     let value = registry.decode(id, bytes).unwrap();
@@ -125,13 +125,13 @@ fn four_threads_have_sessions_of_one_registry() {
 fn a_session_is_shared_while_others_begin_and_end() {
     let registry = Registry::open(U16).unwrap();
     let mut shared = registry.start(0, Limits::new()).unwrap();
-    shared.feed(b"\x07").unwrap();
+    let _ = shared.feed(b"\x07").unwrap();
     thread::scope(|scope| {
         for _ in 0..4 {
             scope.spawn(|| {
                 for _ in 0..1000 {
                     let mut own = registry.start(0, Limits::new()).unwrap();
-                    own.feed(b"\x01").unwrap();
+                    let _ = own.feed(b"\x01").unwrap();
                     assert_eq!((shared.taken(), own.taken(), registry.len()), (1, 1, 1));
                 }
             });
@@ -145,7 +145,7 @@ fn a_session_is_shared_while_others_begin_and_end() {
 fn a_session_is_asked_by_four_threads() {
     let registry = Registry::open(U16).unwrap();
     let mut shared = registry.start(0, Limits::new()).unwrap();
-    shared.feed(b"\x07\x00").unwrap();
+    let _ = shared.feed(b"\x07\x00").unwrap();
     let begun = Barrier::new(4);
     thread::scope(|scope| {
         for _ in 0..4 {
@@ -182,6 +182,24 @@ fn a_small_stack_is_enough_for_the_default_depth() {
                 .all(|length| *length == lengths[0] && *length > 64 * 11)
         );
     }
+}
+
+/// The documents of `Item` promise these depths.
+#[test]
+fn a_stack_of_two_mebibytes_holds_deep_items() {
+    let item = |depth| {
+        (0..depth).fold(Item::Unit, |inner, _| {
+            Item::named_variant("Next", [("a", inner)])
+        })
+    };
+    with_stack(2 << 20, move || drop(item(8_000)));
+    with_stack(2 << 20, move || {
+        let item = item(1_200);
+        assert!(item.clone() == item);
+        assert_eq!(format!("{item:?}").matches("Next").count(), 1_200);
+    });
+    let page = include_str!("../src/item.rs");
+    assert!(page.contains("holds 8,000 levels to drop and 1,200 to clone, compare or format"));
 }
 
 /// What this crate does itself takes no stack for a level, nor do the calls for nodes.

@@ -3,8 +3,11 @@
 mod common;
 
 use common::*;
-use scaleview::{Class, Error, Item, Kind, Limits, NodeReason, Primitive, Registry, TypeKind};
+use scaleview::{
+    Class, Error, Item, Kind, Limits, Memory, NodeReason, Primitive, Registry, TypeKind,
+};
 use std::fs;
+use std::iter::FusedIterator;
 use std::path::Path;
 use std::time::{Duration, Instant};
 
@@ -233,6 +236,128 @@ fn items_of_all_kinds_are_encoded() {
 }
 
 #[test]
+fn wide_integers_are_read_as_narrow_ones() {
+    let registry = numbers();
+    let (max, min) = (i128::MAX, i128::MIN);
+    for (item, unsigned, signed) in [
+        (Item::from(5), Some(5), Some(5)),
+        (Item::from(-5), None, Some(-5)),
+        (max.into(), Some(max as u128), Some(max)),
+        (min.into(), None, Some(min)),
+        (u128::MAX.into(), Some(u128::MAX), None),
+        (Item::Wide([7; 32]), None, None),
+    ] {
+        let bytes = registry.encode(14, &item).unwrap();
+        let value = registry.decode(14, &bytes).unwrap();
+        assert_eq!((value.as_u128(), value.as_i128()), (unsigned, signed));
+        let is_positive = bytes[31] == 0;
+        let value = registry.decode(8, &bytes).unwrap();
+        let positive = (unsigned, signed.filter(|_| is_positive));
+        assert_eq!((value.as_u128(), value.as_i128()), positive, "{item:?}");
+    }
+}
+
+#[test]
+fn a_value_offers_what_its_view_does() {
+    let registry = numbers();
+    let decode = |id, bytes: &'static [u8]| registry.decode(id, bytes).unwrap();
+    let (yes, letter) = (decode(0, b"\x01"), decode(1, b"a\0\0\0"));
+    assert_eq!((yes.as_bool(), yes.as_char()), (Some(true), None));
+    assert_eq!((letter.as_bool(), letter.as_char()), (None, Some('a')));
+    assert_eq!(decode(9, b"\xff").as_i128(), Some(-1));
+    assert_eq!(yes.ty().map(|ty| ty.id()), Some(0));
+    assert_eq!(yes.variant_name(), None);
+    let chain = Registry::open(CHAIN).unwrap();
+    let value = chain.decode(0, &common::chain(1)).unwrap();
+    assert_eq!(value.variant_name(), Some("Next"));
+}
+
+#[test]
+fn debug_names_what_is_shown() {
+    let registry = numbers();
+    let value = registry.decode(20, b"\x08\x01\0\x02\0").unwrap();
+    assert_eq!(format!("{value:?}"), "Value([1,2] of type 20)");
+    assert_eq!(format!("{:?}", value.root()), "ValueRef([1,2] of type 20)");
+    let mut children = value.children();
+    assert_eq!(children.next().unwrap().as_u128(), Some(1));
+    assert_eq!(format!("{children:?}"), "[ValueRef(2 of type 4)]");
+    children.next();
+    assert_eq!(format!("{children:?} {:?}", value.fields()), "[] []");
+    let wrapped = registry.decode(16, &[1; 16]).unwrap();
+    let one = u128::from_le_bytes([1; 16]);
+    assert_eq!(
+        format!("{:?}", wrapped.fields()),
+        format!("[(None, ValueRef([\"{one}\"] of type 15))]")
+    );
+    let shown = format!("{registry:?}");
+    assert!(shown.contains("version: None"), "{shown}");
+}
+
+#[test]
+fn types_are_walked_from_both_ends() {
+    let registry = numbers();
+    let mut types = registry.types();
+    assert_eq!(types.next_back().map(|one| one.id()), Some(22));
+    assert_eq!(types.len(), 22);
+    let ids: Vec<_> = types.by_ref().rev().map(|one| one.id()).collect();
+    assert_eq!(ids, (0..22).rev().collect::<Vec<_>>());
+    assert!(types.next().is_none() && types.next_back().is_none());
+}
+
+#[test]
+fn iterators_that_ended_stay_ended() {
+    fn ends(mut parts: impl FusedIterator + ExactSizeIterator) {
+        for _ in 0..parts.len() {
+            assert!(parts.next().is_some());
+        }
+        assert!((0..3).all(|_| parts.next().is_none()));
+    }
+    let registry = numbers();
+    ends(registry.types());
+    let value = registry.decode(20, b"\x08\x01\0\x02\0").unwrap();
+    ends(value.children());
+    ends(registry.decode(15, &[1; 16]).unwrap().fields());
+}
+
+#[test]
+fn texts_are_padded() {
+    let registry = numbers();
+    let types = [0, 18].map(|id| registry.get(id).unwrap());
+    let shown = types.map(|one| format!("{:>10}{:>6}", one.kind(), one.class()));
+    assert_eq!(shown, [" primitive Sized", "     tuple Empty"]);
+    assert_eq!(format!("{:<5}|", Primitive::I8), "i8   |");
+    let value = registry.decode(20, b"\x08\x01\0\x02\0").unwrap();
+    assert_eq!(
+        format!("{value:>7}|{:<6}|", value.root()),
+        "  [1,2]|[1,2] |"
+    );
+    assert_eq!(format!("{value:.2}"), "[1");
+    let truncated = registry.decode(20, b"\x04").unwrap_err();
+    assert_eq!(format!("{truncated:.^24}"), ".value: Truncated at 1..");
+    assert_eq!(format!("{:>8}", Error::Memory), "  memory");
+    let reason = NodeReason::TooDeep;
+    assert_eq!(format!("{reason:8}|"), "TooDeep |");
+}
+
+#[test]
+fn views_are_compared_by_what_they_hold() {
+    let registry = numbers();
+    let texts = Registry::open(b"\x0c\0\0\0\x05\x02\0\x04\0\0\x02\0\0\x08\0\0\x05\x02\0").unwrap();
+    let list = texts.decode(1, b"\x10\x04a\x04b\x04a\x08aa").unwrap();
+    let part = |position| list.child(position).unwrap();
+    assert_eq!(part(0), part(2));
+    assert_ne!(part(0), part(1));
+    assert_ne!(part(0), part(3));
+    assert_eq!(part(0), texts.decode(0, b"\x04a").unwrap().root());
+    assert_ne!(part(0), texts.decode(2, b"\x04a").unwrap().root());
+    let number = |bytes: &'static [u8]| registry.decode(20, bytes).unwrap();
+    assert_eq!(number(b"\x04\x01\0"), number(b"\x04\x01\0"));
+    assert_ne!(number(b"\x04\x01\0"), number(b"\x04\x02\0"));
+    assert_ne!(number(b"\x04\x01\0"), number(b"\x08\x01\0\x01\0"));
+    assert_ne!(number(b"\0"), number(b"\x04\x01\0"));
+}
+
+#[test]
 fn wrong_items_are_rejected() {
     use NodeReason::{NoSuchVariant, OutOfRange, WrongKind};
     let rejected = |reason, index| Err(Error::Node { reason, index });
@@ -321,10 +446,11 @@ fn items_may_be_as_deep_as_values() {
     );
 }
 
-/// A composite with very many fields, of which the last is a u8 and the others are empty.
-#[test]
-fn a_composite_of_many_fields_is_walked_soon() {
-    const FIELDS: u32 = 99_999;
+const FIELDS: u32 = 99_999;
+
+/// A composite with very many fields, of which the last is a u8 and the others are empty: type 2.
+/// Type 3 is a sequence of it.
+fn many_fields() -> Registry {
     let unit = b"\x00\x00\x00\x04\x00\x00";
     let field = |type_id: u8| [0, type_id * 4, 0, 0];
     let fields = [field(0).repeat(FIELDS as usize - 1), field(1).to_vec()].concat();
@@ -343,7 +469,12 @@ fn a_composite_of_many_fields_is_walked_soon() {
         b"\x0c\x00\x00\x02\x08\x00",
     ]
     .concat();
-    let registry = Registry::open(&registry).unwrap();
+    Registry::open(&registry).unwrap()
+}
+
+#[test]
+fn a_composite_of_many_fields_is_walked_soon() {
+    let registry = many_fields();
     let begun = Instant::now();
     let value = registry.decode(2, b"\x2a").unwrap();
     assert_eq!(value.children().last().unwrap().as_u128(), Some(42));
@@ -362,6 +493,24 @@ fn a_composite_of_many_fields_is_walked_soon() {
         Err(Error::Memory)
     );
     assert!(begun.elapsed() < Duration::from_secs(20));
+}
+
+#[test]
+fn memory_is_bounded_where_no_budget_is_given() {
+    let registry = many_fields();
+    // Six million nodes.
+    let many = [vec![60 * 4], vec![7; 60]].concat();
+    assert_eq!(registry.decode(3, &many).err(), Some(Error::Memory));
+    let limits = Limits::default().bytes(many.len() as u64);
+    let mut session = registry.start(3, limits).unwrap();
+    assert_eq!(session.feed(&many), Err(Error::Memory));
+    let unbounded = limits.unbounded_memory();
+    let value = registry.decode_within(3, &many, unbounded).unwrap();
+    assert_eq!(registry.encode(3, &value), Ok(many));
+    assert_eq!(limits.memory(0), unbounded);
+    let mut none = limits;
+    none.memory = Memory::AtMost(0);
+    assert_eq!(registry.decode_within(2, b"\x2a", none), Err(Error::Memory));
 }
 
 /// Compacts of wrappers of wrappers: each compact's target is far away, and is found once.

@@ -82,10 +82,8 @@ fn check_types(registry: &Registry) {
         let line = registry.type_line(id).unwrap();
         let kind = one
             .primitive()
-            .map_or(format!("{:?}", one.kind()), |primitive| {
-                format!("{primitive:?}")
-            });
-        let wanted = format!("{id} {:?} {} ", one.class(), kind.to_lowercase());
+            .map_or(one.kind().to_string(), |primitive| primitive.to_string());
+        let wanted = format!("{id} {} {kind} ", one.class());
         assert!(line.starts_with(&wanted), "{line} {wanted}");
     }
 }
