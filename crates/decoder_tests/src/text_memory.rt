@@ -32,20 +32,25 @@ fn check_memory(
     Ok(())
 }
 
+/// Checks the memory of a list's text: the bytes before its words, the words' bytes, each of which
+/// is 3, and the length of the text.
+fn check_words(
+    rt: &impl Abort,
+    alloc: Global,
+    front: &[u8],
+    bytes: usize,
+    length: u32,
+) -> Result<(), Fail> {
+    let words = vec![in alloc; 3; bytes]?;
+    check_memory(rt, alloc, (WORDS, 1), &[front, words.as_slice()], length)
+}
+
 // Each word is written as 771, with a comma or bracket after it; there is one bracket more.
 #[test]
 fn a_list_is_written_in_twice_its_length(rt: HostRuntime) -> Result<(), Fail> {
-    let rows = [
-        (b"\xb1\x04".as_slice(), 600, 1_201),
-        (b"\xa2\x09\x01\x00", 34_000, 68_001),
-        (b"\x02\x9f\x24\x00", 1_200_000, 2_400_001),
-    ];
-    'rows: for (front, bytes, length) in rows {
-        let words = vec![in rt.alloc(); 3; bytes]?;
-        let parts = [front, words.as_slice()];
-        check_memory(&rt, rt.alloc(), (WORDS, 1), &parts, length)?;
-    }
-    Ok(())
+    check_words(&rt, rt.alloc(), b"\xb1\x04", 600, 1_201)?;
+    check_words(&rt, rt.alloc(), b"\xa2\x09\x01\x00", 34_000, 68_001)?;
+    check_words(&rt, rt.alloc(), b"\x02\x9f\x24\x00", 1_200_000, 2_400_001)
 }
 
 // The text has 400,000 bytes, the last of which is a line feed. A line feed is written as two
