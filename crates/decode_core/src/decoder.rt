@@ -45,6 +45,19 @@ pub enum Progress {
 ///
 /// It keeps the nodes so far, the bytes so far of an open text or run of bytes, and at most 32
 /// bytes of the next node. It keeps no other input.
+///
+/// # Examples
+///
+/// A u32 in two pieces, and a byte after it:
+///
+/// ```
+/// let limits = Limits::default_limits();
+/// let mut decoder = Decoder::new(alloc, &checked, TypeId(0), limits)?;
+/// assert_eq!(rt; decoder.feed(b"\x2a\x00\x00")?, Progress::More);
+/// assert_eq!(rt; decoder.feed(b"\x00\xff")?, Progress::Done { used: 1 });
+/// let value = decoder.finish()?;
+/// assert_eq!(rt; value.root().what(), What::Unsigned(42));
+/// ```
 #[derive(Drop)]
 pub struct Decoder<'r, A: Allocator> {
     checked: &'r Checked,

@@ -118,6 +118,17 @@ fn feed_all<A: Allocator, R: ReadOnce>(
 ///   are needed, or they are exactly the value's. `failed()` is true then, and otherwise unchanged.
 ///
 /// The reader loses what was read, at most 4096 bytes after the deciding one.
+///
+/// # Examples
+///
+/// A u32 from a reader over memory:
+///
+/// ```
+/// let mut source = Source::new(b"\x2a\x00\x00\x00".as_slice());
+/// let limits = Limits::default_limits();
+/// let value = decode_all(alloc, &checked, TypeId(0), limits, &mut source)?;
+/// assert_eq!(rt; value.root().what(), What::Unsigned(42));
+/// ```
 pub fn decode_all<'r, A: Allocator + Clone, R: ReadOnce>(
     alloc: A,
     checked: &'r Checked,

@@ -39,6 +39,15 @@ pub enum PrintFault {
 /// # Errors
 ///
 /// `AllocError` if an allocation fails.
+///
+/// # Examples
+///
+/// A value of a composite of one field, `nonce`:
+///
+/// ```
+/// let text = json_text(alloc, alloc, &value)?;
+/// assert_eq!(rt; text.as_str(), "{\"nonce\":7}");
+/// ```
 pub fn json_text<A: Allocator, B: Allocator>(
     alloc: Global,
     text_alloc: B,

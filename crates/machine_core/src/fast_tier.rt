@@ -305,8 +305,8 @@ impl<'r, A: Allocator> Partial<'r, A> {
     }
 
     /// Takes turns on nodes that lie whole in the piece, and counts each. Returns how many bytes
-    /// those before the last one took, and the last one's outcome, in place of which a turn of
-    /// another kind follows if it is `Untouched`.
+    /// the turns before the last one took, and the outcome of the last one. If that is `Untouched`,
+    /// it changed nothing, and the next node needs the general turn.
     #[inline(always)]
     pub(crate) fn whole_turns(&mut self, piece: &[u8], turns: &mut Count) -> (usize, Tried)
         ensures { WholeTurnsReport self.old self.new piece.now turns.old.so_far turns.new.so_far

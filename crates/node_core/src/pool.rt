@@ -8,8 +8,8 @@ ghost use Rattle.node_core.specs.Shown.{long_shown};
 use growth_core::GrowVec;
 use std::alloc::{AllocError, Allocator};
 
-/// The first long integer of a pool takes room for so many bytes, those of four, so that few of
-/// them take room once.
+/// The bytes reserved for the first long integer of a pool. Four integers fit, so that a value with
+/// a few of them allocates once.
 const AT_ONCE: usize = 64;
 
 /// One more than the greatest number that eight bytes hold.

@@ -14,9 +14,8 @@ pub struct Remaining {
     pub count: u32,
     /// The type of all of them, by its number, if they have one type.
     pub element: u32,
-    /// 0 if they have one type. Otherwise each part has the type that its own reference names.
-    /// These references follow one another, and this is one more than the number after the last of
-    /// theirs.
+    /// 0 if they have one type. Otherwise each part has a reference of its own, which names its
+    /// type. These references are numbered consecutively, and this is the last number plus 2.
     pub end: usize,
 }
 
@@ -140,9 +139,9 @@ impl Remaining {
 }
 
 impl Frame {
-    /// Returns how many nodes the remaining elements of a list are expected to bring: for each as
-    /// many as those that came have in the mean, the last of which is half there. It is 0 for
-    /// another node, and if no element came or remains.
+    /// Estimates how many nodes the remaining elements of a list will add. Each is expected to have
+    /// the mean number of nodes of those so far, and half of the newest one is taken to be missing.
+    /// Returns 0 for a node that is not a list, and if no element has begun or none remains.
     pub fn expected(&self, nodes: &[Node]) -> usize {
         let Some(node) = nodes.get(self.node) else {
             return 0;

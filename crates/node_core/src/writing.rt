@@ -204,6 +204,14 @@ fn send_node<W: WriteOnce>(
 /// - `WroteNothing` if the writer takes no byte of a part that is not empty.
 ///
 /// Otherwise `failed()` is unchanged.
+///
+/// # Examples
+///
+/// ```
+/// let mut sink = Sink::new(Vec::new(alloc));
+/// encode(&value, &mut sink)?;
+/// let bytes = sink.into_inner();
+/// ```
 pub fn encode<A: Allocator, W: WriteOnce>(
     value: &Value<'_, A>,
     sink: &mut Sink<W>,

@@ -78,6 +78,15 @@ fn metadata_of(alloc: Global, bytes: &[u8]) -> Result<(Registry, Version, &[u8])
 /// - `IdOutOfPlace`, at the first byte of a type's id that is not the type's position. It comes
 ///   before any error in the type itself.
 /// - `OutOfMemory`, at 0, if an allocation fails.
+///
+/// # Examples
+///
+/// A registry of one type, a u32, and a byte after it:
+///
+/// ```
+/// let (registry, taken) = read_registry(alloc, b"\x04\x00\x00\x00\x05\x05\x00\xff")?;
+/// assert_eq!(rt; (registry.types().len(), taken), (1, 7));
+/// ```
 // It takes one pass from left to right, and copies each text once.
 pub fn read_registry(alloc: Global, bytes: &[u8]) -> Result<(Registry, usize), RegistryFault>
     // The registry, or the error.
@@ -112,6 +121,14 @@ pub fn read_registry(alloc: Global, bytes: &[u8]) -> Result<(Registry, usize), R
 /// - The errors of [`read_registry`] after the prefix, with places in bytes from the start of
 ///   `bytes`.
 /// - `OutOfMemory`, at 0, if an allocation fails.
+///
+/// # Examples
+///
+/// ```
+/// let bytes = b"meta\x0e\x04\x00\x00\x00\x05\x05\x00";
+/// let (registry, taken, version) = read_metadata(alloc, bytes)?;
+/// assert_eq!(rt; (registry.types().len(), taken, version.number()), (1, 12, 14));
+/// ```
 pub fn read_metadata(
     alloc: Global,
     bytes: &[u8],

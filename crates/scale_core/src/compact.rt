@@ -167,6 +167,15 @@ fn read_long(bytes: &[u8], first: u8, target: Target) -> Result<(u128, usize), F
 /// - `Truncated` at the length of `bytes` if it has fewer than the first byte claims.
 /// - `CompactNotShortest` at 0 if the mode is longer than the value needs.
 /// - `CompactTooLarge` at 0 if the value is above the range of the target.
+///
+/// # Examples
+///
+/// 300 in the mode of two bytes, and a byte after it:
+///
+/// ```
+/// let (value, taken) = read_compact(b"\xb1\x04\xff", Target::U32)?;
+/// assert_eq!(rt; (value, taken), (300, 2));
+/// ```
 pub fn read_compact(bytes: &[u8], target: Target) -> Result<(u128, usize), Fault>
     ensures reads { Answers (λ x. x) bytes.now result (compact_at target bytes.now) }
     ensures fits { IfOk result (λ x. x.0 < 256 ^ target_bytes target) }

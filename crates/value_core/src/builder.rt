@@ -22,6 +22,22 @@ use widths_core::Checked;
 ///
 /// Each node comes before its children, in the order of their bytes. [`RawBuilder`] has the calls
 /// that do not judge.
+///
+/// # Examples
+///
+/// A sequence of two words, where type 1 is a sequence of u16:
+///
+/// ```
+/// let mut builder = Builder::new(alloc, &checked, TypeId(1), 64)?;
+/// builder.list(2)?;
+/// builder.unsigned(7)?;
+/// builder.unsigned(8)?;
+/// let value = match builder.finish() {
+///     Ok(value) => value,
+///     Err((fault, _builder)) => return Err(fault)?,
+/// };
+/// assert_eq!(rt; value.node_count(), 3);
+/// ```
 #[derive(Drop)]
 pub struct Builder<'r, A: Allocator> {
     pub(crate) raw: RawBuilder<'r, A>,

@@ -76,6 +76,17 @@ impl Checked {
     ///   by the order of the definition's bytes.
     /// - `OutOfMemory` if every reference is known and an allocation fails, or there are
     ///   4,294,967,295 references or counters or more.
+    ///
+    /// # Examples
+    ///
+    /// A sequence of the type 1, which the registry lacks:
+    ///
+    /// ```
+    /// let (registry, _) = read_registry(alloc, b"\x04\x00\x00\x00\x02\x04\x00")?;
+    /// let fault = Checked::new(alloc, registry).err().map(|(fault, _)| fault);
+    /// let (from, to) = (TypeId(0), TypeId(1));
+    /// assert_eq!(rt; fault, Some(CheckFault::UnknownType { from, to }));
+    /// ```
     pub fn new(alloc: Global, registry: Registry) -> Result<Checked, (CheckFault, Registry)>
         // Which answer it is.
         ensures exact { CheckAnswers registry result }

@@ -83,8 +83,8 @@ impl Settling {
         Ok(())
     }
 
-    /// Settles the owner of a counter, all of whose parts have settled. A compact over the last of
-    /// them, which is u8 itself or not, has this target.
+    /// Settles the owner of a counter, all of whose parts have settled. `last` is the target of a
+    /// compact over the part that settled last, and `byte` tells whether that part is u8 itself.
     fn complete(
         &mut self,
         counter: Counter,
