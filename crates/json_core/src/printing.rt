@@ -34,7 +34,7 @@ pub enum PrintFault {
 /// are out of order, from `alloc`.
 ///
 /// It takes time in proportion to the text. The calls nest as deep as the value, at most 1025
-/// levels, which take some 420 KiB of stack.
+/// levels, which take some 400 KiB of stack.
 ///
 /// # Errors
 ///
