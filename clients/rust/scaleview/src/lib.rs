@@ -38,6 +38,7 @@ mod error;
 mod item;
 mod json;
 mod limits;
+mod lower;
 mod registry;
 mod session;
 mod types;

@@ -3,8 +3,9 @@
 use crate::buffer;
 use crate::describe::{Details, Reader};
 use crate::error::Error;
-use crate::item::{self, Source};
+use crate::item::Source;
 use crate::limits::Limits;
+use crate::lower::lower;
 use crate::session::{OwnedSession, Session};
 use crate::types::{Primitive, Type, TypeId, Types};
 use crate::value::Value;
@@ -437,7 +438,7 @@ impl Registry {
         match source.into() {
             Source::Value(value) => self.encode_nodes(id, value.nodes, value.pool, limits),
             Source::Item(item) => {
-                let (nodes, pool) = item::lower(self, id, item)?;
+                let (nodes, pool) = lower(self, id, item)?;
                 self.encode_nodes(id, &nodes, &pool, limits)
             }
         }
