@@ -11,9 +11,14 @@ use crate::value::{Value, ValueRef};
 /// enough for integers of all widths, compact ones too, and fields and variants are found by their
 /// names.
 ///
-/// Drop, clone, `==` and `{:?}` recurse once for each level; encoding does not, and takes at most
-/// 1024. A stack of 2 MiB holds 8,000 levels to drop and 1,200 to clone, compare or format, without
-/// optimization too. A program that builds an item from untrusted input must bound its depth.
+/// A part whose type takes no bytes may be written as its type reads, or as [`Item::Unit`].
+///
+/// Drop, clone, `==`, `{:?}` and hashing recurse once for each level; encoding does not, and takes
+/// at most 1024. A stack of 2 MiB holds 8,000 levels to drop and 1,200 to clone, compare, format or
+/// hash, without optimization too. A program that builds an item from untrusted input must bound
+/// its depth.
+///
+/// # Examples
 ///
 /// ```
 /// # use scaleview::{Error, Item, Registry};
@@ -30,10 +35,10 @@ use crate::value::{Value, ValueRef};
 /// # Ok(())
 /// # }
 /// ```
-#[derive(Clone, Debug, PartialEq, Eq)]
+#[derive(Clone, Debug, PartialEq, Eq, Hash)]
 #[non_exhaustive]
 pub enum Item<'a> {
-    /// The one value of a type that takes no bytes.
+    /// The one value of a type that takes no bytes, whatever the type.
     Unit,
     /// A boolean.
     Bool(bool),

@@ -33,6 +33,7 @@
 )]
 
 mod buffer;
+mod convert;
 mod describe;
 mod error;
 mod item;
@@ -44,6 +45,7 @@ mod session;
 mod types;
 mod value;
 
+pub use convert::TryFromValueError;
 pub use error::{Error, NodeReason, RegistryReason, ValueReason};
 pub use item::{Item, Source};
 pub use limits::{Limits, Memory};
