@@ -42,6 +42,8 @@ struct Slot {
 /// It may be shared by threads. Calls that only read it run at the same time: decoding, encoding
 /// and questions about types. So do calls on different sessions.
 ///
+/// # Examples
+///
 /// ```
 /// # use scaleview::{Error, Registry};
 /// # fn main() -> Result<(), Error> {
@@ -124,6 +126,26 @@ impl Registry {
     /// # Errors
     /// `Registry` at the first error, `UnknownReference` if a type refers to one that doesn't
     /// exist, `Memory`, `Version`.
+    ///
+    /// # Examples
+    ///
+    /// ```
+    /// # use scaleview::{Error, Registry, RegistryReason};
+    /// # fn main() -> Result<(), Error> {
+    /// // One type, u32.
+    /// let bytes = b"\x04\x00\x00\x00\x05\x05\x00";
+    /// let registry = Registry::open(bytes)?;
+    /// assert_eq!((registry.len(), registry.version()), (1, None));
+    ///
+    /// let metadata = [b"meta\x0e".as_slice(), bytes].concat();
+    /// assert_eq!(Registry::open(&metadata)?.version(), Some(14));
+    ///
+    /// let error = Registry::open(b"\x04\x00").unwrap_err();
+    /// let reason = RegistryReason::Truncated;
+    /// assert_eq!(error, Error::Registry { reason, place: 2 });
+    /// # Ok(())
+    /// # }
+    /// ```
     pub fn open(bytes: &[u8]) -> Result<Registry, Error> {
         Registry::opened(bytes, bytes.starts_with(METADATA))
     }
@@ -312,6 +334,22 @@ impl Registry {
     ///
     /// # Errors
     /// `UnknownType`, `Value` with the reason and the place, `Memory`.
+    ///
+    /// # Examples
+    ///
+    /// ```
+    /// # use scaleview::{Error, Registry, ValueReason};
+    /// # fn main() -> Result<(), Error> {
+    /// let registry = Registry::open(b"\x04\x00\x00\x00\x05\x05\x00")?;
+    /// let value = registry.decode(0, b"\x2a\x00\x00\x00")?;
+    /// assert_eq!(value.as_u128(), Some(42));
+    ///
+    /// let error = registry.decode(0, b"\x2a\x00\x00\x00\xff").unwrap_err();
+    /// let reason = ValueReason::TrailingBytes;
+    /// assert_eq!(error, Error::Value { reason, place: 4 });
+    /// # Ok(())
+    /// # }
+    /// ```
     pub fn decode(&self, id: TypeId, bytes: &[u8]) -> Result<Value<'_>, Error> {
         self.decode_within(id, bytes, Limits::new())
     }
@@ -366,6 +404,17 @@ impl Registry {
     ///
     /// # Errors
     /// As [`decode`](Registry::decode).
+    ///
+    /// # Examples
+    ///
+    /// ```
+    /// # use scaleview::{Error, Registry};
+    /// # fn main() -> Result<(), Error> {
+    /// let registry = Registry::open(b"\x04\x00\x00\x00\x05\x05\x00")?;
+    /// assert_eq!(registry.decode_json(0, b"\x2a\x00\x00\x00")?, "42");
+    /// # Ok(())
+    /// # }
+    /// ```
     pub fn decode_json(&self, id: TypeId, bytes: &[u8]) -> Result<String, Error> {
         self.decode_json_within(id, bytes, Limits::new())
     }
@@ -408,6 +457,12 @@ impl Registry {
     /// Encodes a value of the type at this position: a decoded [`Value`], a part of one, or an
     /// [`Item`](crate::Item).
     ///
+    /// # Errors
+    /// `UnknownType`, `Node` with the reason and the node, `UnknownField` and `MissingField` for an
+    /// item, `Memory`.
+    ///
+    /// # Examples
+    ///
     /// ```
     /// # use scaleview::{Error, Item, Registry};
     /// # fn main() -> Result<(), Error> {
@@ -417,10 +472,6 @@ impl Registry {
     /// # Ok(())
     /// # }
     /// ```
-    ///
-    /// # Errors
-    /// `UnknownType`, `Node` with the reason and the node, `UnknownField` and `MissingField` for an
-    /// item, `Memory`.
     pub fn encode<'a>(&self, id: TypeId, source: impl Into<Source<'a>>) -> Result<Vec<u8>, Error> {
         self.encode_within(id, source, Limits::new())
     }
@@ -483,6 +534,20 @@ impl Registry {
     ///
     /// # Errors
     /// `UnknownType`, `LimitOutOfRange`, `Memory`.
+    ///
+    /// # Examples
+    ///
+    /// ```
+    /// # use scaleview::{Error, Limits, Progress, Registry};
+    /// # fn main() -> Result<(), Error> {
+    /// let registry = Registry::open(b"\x04\x00\x00\x00\x05\x05\x00")?;
+    /// let mut session = registry.start(0, Limits::new())?;
+    /// assert_eq!(session.feed(b"\x2a\x00")?, Progress::More);
+    /// assert_eq!(session.feed(b"\x00\x00")?, Progress::Done { used: 2 });
+    /// assert_eq!(session.finish()?.as_u128(), Some(42));
+    /// # Ok(())
+    /// # }
+    /// ```
     pub fn start(&self, id: TypeId, limits: Limits) -> Result<Session<'_>, Error> {
         Session::over(self, id, limits)
     }
