@@ -2,11 +2,11 @@
 
 use crate::buffer;
 use crate::describe::{Details, Reader};
-use crate::error::Error;
+use crate::error::{Error, ValueReason};
 use crate::item::Source;
 use crate::limits::Limits;
 use crate::lower::lower;
-use crate::session::{OwnedSession, Session};
+use crate::session::{OwnedSession, Progress, Session};
 use crate::types::{Primitive, Type, TypeId, Types};
 use crate::value::Value;
 use scaleview_sys::{
@@ -79,6 +79,10 @@ pub struct Registry {
 /// The first four bytes of metadata. No registry alone begins with them: its first type would have
 /// the id 29.
 const METADATA: &[u8] = b"meta";
+
+/// The length from which on a value is decoded in a session, in bytes.
+// A shorter value for which the first guess is enough would be decoded more slowly in a session.
+const LARGE: usize = 1 << 18;
 
 impl Registry {
     fn opened(bytes: &[u8], metadata: bool) -> Result<Registry, Error> {
@@ -364,6 +368,9 @@ impl Registry {
         bytes: &[u8],
         limits: Limits,
     ) -> Result<Value<'_>, Error> {
+        if bytes.len() >= LARGE {
+            return self.decode_large(id, bytes, limits);
+        }
         let (depth, limit) = (limits.depth, limits.bytes);
         let memory = limits.budget(bytes.len() as u64);
         let call = |nodes, node_room, pool, pool_room, answer: &mut Answer| {
@@ -393,6 +400,21 @@ impl Registry {
         // SAFETY: the header promises what `nodes` wants.
         let (nodes, pool) = unsafe { buffer::nodes(guess, call) }.map_err(Error::of_type(id))?;
         Value::new(self, nodes, pool)
+    }
+
+    /// Decodes a value in a session, which keeps it while its nodes are counted. So it is decoded
+    /// once, whatever its number of nodes.
+    fn decode_large(&self, id: TypeId, bytes: &[u8], limits: Limits) -> Result<Value<'_>, Error> {
+        // The default budget of a session is that of its limit.
+        let limits = limits.memory(limits.budget(bytes.len() as u64));
+        let mut session = self.start(id, limits)?;
+        match session.feed(bytes)? {
+            Progress::Done { used } if used < bytes.len() => Err(Error::Value {
+                reason: ValueReason::TrailingBytes,
+                place: used as u64,
+            }),
+            _ => session.finish(),
+        }
     }
 
     /// Returns the JSON of the value, of the type at this position, that all the bytes spell,
