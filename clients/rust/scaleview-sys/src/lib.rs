@@ -206,7 +206,7 @@ pub const SCALEVIEW_NODE_LIST: u32 = 12;
 
 /// What a type is. Numbers are 0 unless the kind gives them a meaning.
 #[repr(C)]
-#[derive(Clone, Copy, Debug, Default, PartialEq, Eq)]
+#[derive(Clone, Copy, Debug, Default, PartialEq, Eq, Hash)]
 pub struct scaleview_type_shape {
     /// The kind, of `SCALEVIEW_COMPOSITE` to `SCALEVIEW_BIT_SEQUENCE`.
     pub kind: u32,
@@ -230,7 +230,7 @@ pub struct scaleview_type_shape {
 /// children, and the bytes of texts, byte runs and 256-bit integers in the same order in a pool
 /// beside them.
 #[repr(C)]
-#[derive(Clone, Copy, Debug, Default, PartialEq, Eq)]
+#[derive(Clone, Copy, Debug, Default, PartialEq, Eq, Hash)]
 pub struct scaleview_node {
     /// The kind, of `SCALEVIEW_NODE_EMPTY` to `SCALEVIEW_NODE_LIST`.
     pub kind: u32,
@@ -250,7 +250,7 @@ pub struct scaleview_node {
 /// What a call reports besides its code, which is repeated here. Numbers are 0 unless the code
 /// gives them a meaning.
 #[repr(C)]
-#[derive(Clone, Copy, Debug, Default, PartialEq, Eq)]
+#[derive(Clone, Copy, Debug, Default, PartialEq, Eq, Hash)]
 pub struct scaleview_answer {
     /// The code that the call returned.
     pub code: u32,

@@ -92,6 +92,8 @@ reasons! {
 ///
 /// It is displayed as the command tells it.
 ///
+/// # Examples
+///
 /// ```
 /// # use scaleview::{Error, Registry, ValueReason};
 /// # fn main() -> Result<(), Error> {
@@ -137,21 +139,25 @@ pub enum Error {
     Node {
         /// Why.
         reason: NodeReason,
-        /// Which: 0 is the value, and each node comes before its children.
+        /// Which: 0 is the value, and each node comes before its children, which are in the order
+        /// of their type. An [`Item`](crate::Item) is one node, and so is, with all its parts, one
+        /// whose type takes no bytes or is a sequence of elements that take none.
         index: u64,
     },
-    /// An [`Item`](crate::Item) names a field that its type doesn't have, or names one twice.
+    /// An [`Item`](crate::Item) names a field that its type doesn't have, or names one twice. This
+    /// is returned also if a field is missing.
     UnknownField {
-        /// Which item: 0 is the value, and each item comes before its children.
+        /// Which item: 0 is the value, and each item comes before its children, which are in the
+        /// order of the item's list. All items count, also those whose types take no bytes.
         index: u64,
-        /// The position in the item's list of names.
+        /// The position of the first such name in the item's list.
         field: u32,
     },
-    /// An [`Item`](crate::Item) names fields, and not all that its type has.
+    /// An [`Item`](crate::Item) doesn't name all fields of its type.
     MissingField {
-        /// Which item: 0 is the value, and each item comes before its children.
+        /// Which item, as in [`UnknownField`](Error::UnknownField).
         index: u64,
-        /// The position of the field in its type.
+        /// The position of the first missing field in the type.
         field: u32,
     },
     /// An allocation failed, or would have exceeded the budget of [`Limits`](crate::Limits).

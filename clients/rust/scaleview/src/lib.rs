@@ -33,16 +33,19 @@
 )]
 
 mod buffer;
+mod convert;
 mod describe;
 mod error;
 mod item;
 mod json;
 mod limits;
+mod lower;
 mod registry;
 mod session;
 mod types;
 mod value;
 
+pub use convert::TryFromValueError;
 pub use error::{Error, NodeReason, RegistryReason, ValueReason};
 pub use item::{Item, Source};
 pub use limits::{Limits, Memory};

@@ -6,6 +6,8 @@
 /// The default is a depth of 64, 16777216 bytes, and [`Memory::ByInput`]: 64 MiB of memory and 64
 /// times the length of the input.
 ///
+/// # Examples
+///
 /// ```
 /// # use scaleview::{Error, Limits, Registry};
 /// # fn main() -> Result<(), Error> {

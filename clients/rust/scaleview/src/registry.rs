@@ -2,10 +2,11 @@
 
 use crate::buffer;
 use crate::describe::{Details, Reader};
-use crate::error::Error;
-use crate::item::{self, Source};
+use crate::error::{Error, ValueReason};
+use crate::item::Source;
 use crate::limits::Limits;
-use crate::session::{OwnedSession, Session};
+use crate::lower::lower;
+use crate::session::{OwnedSession, Progress, Session};
 use crate::types::{Primitive, Type, TypeId, Types};
 use crate::value::Value;
 use scaleview_sys::{
@@ -40,6 +41,8 @@ struct Slot {
 ///
 /// It may be shared by threads. Calls that only read it run at the same time: decoding, encoding
 /// and questions about types. So do calls on different sessions.
+///
+/// # Examples
 ///
 /// ```
 /// # use scaleview::{Error, Registry};
@@ -76,6 +79,10 @@ pub struct Registry {
 /// The first four bytes of metadata. No registry alone begins with them: its first type would have
 /// the id 29.
 const METADATA: &[u8] = b"meta";
+
+/// The length from which on a value is decoded in a session, in bytes.
+// A shorter value for which the first guess is enough would be decoded more slowly in a session.
+const LARGE: usize = 1 << 18;
 
 impl Registry {
     fn opened(bytes: &[u8], metadata: bool) -> Result<Registry, Error> {
@@ -123,6 +130,26 @@ impl Registry {
     /// # Errors
     /// `Registry` at the first error, `UnknownReference` if a type refers to one that doesn't
     /// exist, `Memory`, `Version`.
+    ///
+    /// # Examples
+    ///
+    /// ```
+    /// # use scaleview::{Error, Registry, RegistryReason};
+    /// # fn main() -> Result<(), Error> {
+    /// // One type, u32.
+    /// let bytes = b"\x04\x00\x00\x00\x05\x05\x00";
+    /// let registry = Registry::open(bytes)?;
+    /// assert_eq!((registry.len(), registry.version()), (1, None));
+    ///
+    /// let metadata = [b"meta\x0e".as_slice(), bytes].concat();
+    /// assert_eq!(Registry::open(&metadata)?.version(), Some(14));
+    ///
+    /// let error = Registry::open(b"\x04\x00").unwrap_err();
+    /// let reason = RegistryReason::Truncated;
+    /// assert_eq!(error, Error::Registry { reason, place: 2 });
+    /// # Ok(())
+    /// # }
+    /// ```
     pub fn open(bytes: &[u8]) -> Result<Registry, Error> {
         Registry::opened(bytes, bytes.starts_with(METADATA))
     }
@@ -311,6 +338,22 @@ impl Registry {
     ///
     /// # Errors
     /// `UnknownType`, `Value` with the reason and the place, `Memory`.
+    ///
+    /// # Examples
+    ///
+    /// ```
+    /// # use scaleview::{Error, Registry, ValueReason};
+    /// # fn main() -> Result<(), Error> {
+    /// let registry = Registry::open(b"\x04\x00\x00\x00\x05\x05\x00")?;
+    /// let value = registry.decode(0, b"\x2a\x00\x00\x00")?;
+    /// assert_eq!(value.as_u128(), Some(42));
+    ///
+    /// let error = registry.decode(0, b"\x2a\x00\x00\x00\xff").unwrap_err();
+    /// let reason = ValueReason::TrailingBytes;
+    /// assert_eq!(error, Error::Value { reason, place: 4 });
+    /// # Ok(())
+    /// # }
+    /// ```
     pub fn decode(&self, id: TypeId, bytes: &[u8]) -> Result<Value<'_>, Error> {
         self.decode_within(id, bytes, Limits::new())
     }
@@ -325,6 +368,9 @@ impl Registry {
         bytes: &[u8],
         limits: Limits,
     ) -> Result<Value<'_>, Error> {
+        if bytes.len() >= LARGE {
+            return self.decode_large(id, bytes, limits);
+        }
         let (depth, limit) = (limits.depth, limits.bytes);
         let memory = limits.budget(bytes.len() as u64);
         let call = |nodes, node_room, pool, pool_room, answer: &mut Answer| {
@@ -356,6 +402,21 @@ impl Registry {
         Value::new(self, nodes, pool)
     }
 
+    /// Decodes a value in a session, which keeps it while its nodes are counted. So it is decoded
+    /// once, whatever its number of nodes.
+    fn decode_large(&self, id: TypeId, bytes: &[u8], limits: Limits) -> Result<Value<'_>, Error> {
+        // The default budget of a session is that of its limit.
+        let limits = limits.memory(limits.budget(bytes.len() as u64));
+        let mut session = self.start(id, limits)?;
+        match session.feed(bytes)? {
+            Progress::Done { used } if used < bytes.len() => Err(Error::Value {
+                reason: ValueReason::TrailingBytes,
+                place: used as u64,
+            }),
+            _ => session.finish(),
+        }
+    }
+
     /// Returns the JSON of the value, of the type at this position, that all the bytes spell,
     /// within the default limits.
     ///
@@ -365,6 +426,17 @@ impl Registry {
     ///
     /// # Errors
     /// As [`decode`](Registry::decode).
+    ///
+    /// # Examples
+    ///
+    /// ```
+    /// # use scaleview::{Error, Registry};
+    /// # fn main() -> Result<(), Error> {
+    /// let registry = Registry::open(b"\x04\x00\x00\x00\x05\x05\x00")?;
+    /// assert_eq!(registry.decode_json(0, b"\x2a\x00\x00\x00")?, "42");
+    /// # Ok(())
+    /// # }
+    /// ```
     pub fn decode_json(&self, id: TypeId, bytes: &[u8]) -> Result<String, Error> {
         self.decode_json_within(id, bytes, Limits::new())
     }
@@ -407,6 +479,12 @@ impl Registry {
     /// Encodes a value of the type at this position: a decoded [`Value`], a part of one, or an
     /// [`Item`](crate::Item).
     ///
+    /// # Errors
+    /// `UnknownType`, `Node` with the reason and the node, `UnknownField` and `MissingField` for an
+    /// item, `Memory`.
+    ///
+    /// # Examples
+    ///
     /// ```
     /// # use scaleview::{Error, Item, Registry};
     /// # fn main() -> Result<(), Error> {
@@ -416,10 +494,6 @@ impl Registry {
     /// # Ok(())
     /// # }
     /// ```
-    ///
-    /// # Errors
-    /// `UnknownType`, `Node` with the reason and the node, `UnknownField` and `MissingField` for an
-    /// item, `Memory`.
     pub fn encode<'a>(&self, id: TypeId, source: impl Into<Source<'a>>) -> Result<Vec<u8>, Error> {
         self.encode_within(id, source, Limits::new())
     }
@@ -437,7 +511,7 @@ impl Registry {
         match source.into() {
             Source::Value(value) => self.encode_nodes(id, value.nodes, value.pool, limits),
             Source::Item(item) => {
-                let (nodes, pool) = item::lower(self, id, item)?;
+                let (nodes, pool) = lower(self, id, item)?;
                 self.encode_nodes(id, &nodes, &pool, limits)
             }
         }
@@ -482,6 +556,20 @@ impl Registry {
     ///
     /// # Errors
     /// `UnknownType`, `LimitOutOfRange`, `Memory`.
+    ///
+    /// # Examples
+    ///
+    /// ```
+    /// # use scaleview::{Error, Limits, Progress, Registry};
+    /// # fn main() -> Result<(), Error> {
+    /// let registry = Registry::open(b"\x04\x00\x00\x00\x05\x05\x00")?;
+    /// let mut session = registry.start(0, Limits::new())?;
+    /// assert_eq!(session.feed(b"\x2a\x00")?, Progress::More);
+    /// assert_eq!(session.feed(b"\x00\x00")?, Progress::Done { used: 2 });
+    /// assert_eq!(session.finish()?.as_u128(), Some(42));
+    /// # Ok(())
+    /// # }
+    /// ```
     pub fn start(&self, id: TypeId, limits: Limits) -> Result<Session<'_>, Error> {
         Session::over(self, id, limits)
     }

@@ -62,6 +62,8 @@ impl RegistryRef for Arc<Registry> {}
 ///
 /// Sessions of one registry may be on several threads, and take pieces at the same time.
 ///
+/// # Examples
+///
 /// A function may take sessions of both kinds:
 ///
 /// ```
@@ -84,6 +86,8 @@ pub struct AnySession<R: RegistryRef> {
 
 /// A value in progress, over a registry that it borrows.
 ///
+/// # Examples
+///
 /// ```
 /// # fn main() -> Result<(), scaleview::Error> {
 /// use scaleview::{Limits, Progress, Registry};
@@ -100,6 +104,8 @@ pub type Session<'r> = AnySession<&'r Registry>;
 
 /// A value in progress, over a registry that it shares: a struct may have both, and a thread may
 /// take it along.
+///
+/// # Examples
 ///
 /// ```
 /// # fn main() -> Result<(), scaleview::Error> {
@@ -162,6 +168,23 @@ impl<R: RegistryRef> AnySession<R> {
     /// # Errors
     /// `Value` with the reason and the place in all pieces, `Memory`. Every later call returns the
     /// same.
+    ///
+    /// # Examples
+    ///
+    /// ```
+    /// # use scaleview::{Error, Limits, Progress, Registry};
+    /// # fn main() -> Result<(), Error> {
+    /// let registry = Registry::open(b"\x04\x00\x00\x00\x05\x05\x00")?;
+    /// let mut session = registry.start(0, Limits::new())?;
+    /// assert_eq!(session.feed(b"\x2a\x00\x00")?, Progress::More);
+    /// let piece = b"\x00next";
+    /// if let Progress::Done { used } = session.feed(piece)? {
+    ///     assert_eq!(&piece[used..], b"next");
+    /// }
+    /// assert_eq!(session.taken(), 4);
+    /// # Ok(())
+    /// # }
+    /// ```
     #[must_use = "a piece may be rejected, and the value may end inside it"]
     pub fn feed(&mut self, piece: &[u8]) -> Result<Progress, Error> {
         let mut answer = Answer::default();
@@ -210,6 +233,24 @@ impl<R: RegistryRef> AnySession<R> {
     /// # Errors
     /// `Value` with `Truncated` at the bytes taken if the value is incomplete, or the error that
     /// [`feed`](AnySession::feed) returned; `Memory`.
+    ///
+    /// # Examples
+    ///
+    /// ```
+    /// # use scaleview::{Error, Limits, Progress, Registry, ValueReason};
+    /// # fn main() -> Result<(), Error> {
+    /// let registry = Registry::open(b"\x04\x00\x00\x00\x05\x05\x00")?;
+    /// let mut session = registry.start(0, Limits::new())?;
+    /// assert_eq!(session.feed(b"\x2a\x00\x00\x00")?, Progress::Done { used: 4 });
+    /// assert_eq!(session.finish_json()?, "42");
+    ///
+    /// let mut session = registry.start(0, Limits::new())?;
+    /// assert_eq!(session.feed(b"\x2a")?, Progress::More);
+    /// let reason = ValueReason::Truncated;
+    /// assert_eq!(session.finish_json(), Err(Error::Value { reason, place: 1 }));
+    /// # Ok(())
+    /// # }
+    /// ```
     pub fn finish_json(&mut self) -> Result<String, Error> {
         let guess = json_guess(self.taken());
         let call = |out, room, answer: &mut Answer| {
@@ -240,6 +281,19 @@ impl<'r> Session<'r> {
     ///
     /// # Errors
     /// As [`finish_json`](AnySession::finish_json).
+    ///
+    /// # Examples
+    ///
+    /// ```
+    /// # use scaleview::{Error, Limits, Progress, Registry};
+    /// # fn main() -> Result<(), Error> {
+    /// let registry = Registry::open(b"\x04\x00\x00\x00\x05\x05\x00")?;
+    /// let mut session = registry.start(0, Limits::new())?;
+    /// assert_eq!(session.feed(b"\x2a\x00\x00\x00")?, Progress::Done { used: 4 });
+    /// assert_eq!(session.finish()?.as_u128(), Some(42));
+    /// # Ok(())
+    /// # }
+    /// ```
     pub fn finish(&mut self) -> Result<Value<'r>, Error> {
         self.value(self.registry)
     }
@@ -251,6 +305,20 @@ impl OwnedSession {
     ///
     /// # Errors
     /// As [`finish_json`](AnySession::finish_json).
+    ///
+    /// # Examples
+    ///
+    /// ```
+    /// # use scaleview::{Error, Limits, Progress, Registry};
+    /// # use std::sync::Arc;
+    /// # fn main() -> Result<(), Error> {
+    /// let registry = Arc::new(Registry::open(b"\x04\x00\x00\x00\x05\x05\x00")?);
+    /// let mut session = registry.start_owned(0, Limits::new())?;
+    /// assert_eq!(session.feed(b"\x2a\x00\x00\x00")?, Progress::Done { used: 4 });
+    /// assert_eq!(session.finish()?.as_u128(), Some(42));
+    /// # Ok(())
+    /// # }
+    /// ```
     pub fn finish(&mut self) -> Result<Value<'_>, Error> {
         self.value(&self.registry)
     }

@@ -127,7 +127,7 @@ impl fmt::Display for Primitive {
 }
 
 /// A field of a composite or of a variant, or a member of a tuple.
-#[derive(Clone, Debug, PartialEq, Eq)]
+#[derive(Clone, Debug, PartialEq, Eq, Hash)]
 pub struct Field {
     pub(crate) name: Option<String>,
     pub(crate) type_id: TypeId,
@@ -146,7 +146,7 @@ impl Field {
 }
 
 /// The order in which JSON has the fields of an object.
-#[derive(Clone, Debug, PartialEq, Eq)]
+#[derive(Clone, Debug, PartialEq, Eq, Hash)]
 pub(crate) enum Keys {
     /// The fields are an array: one has no name, two have the same, or there is none.
     Array,
@@ -157,14 +157,14 @@ pub(crate) enum Keys {
 }
 
 /// Fields, and the order of their names.
-#[derive(Clone, Debug, PartialEq, Eq)]
+#[derive(Clone, Debug, PartialEq, Eq, Hash)]
 pub(crate) struct FieldList {
     pub fields: Vec<Field>,
     pub keys: Keys,
 }
 
 /// One of the variants of an enum, which scale-info calls variants too.
-#[derive(Clone, Debug, PartialEq, Eq)]
+#[derive(Clone, Debug, PartialEq, Eq, Hash)]
 pub struct Variant {
     pub(crate) name: String,
     pub(crate) index: u8,
@@ -189,6 +189,8 @@ impl Variant {
 }
 
 /// A type of a registry.
+///
+/// # Examples
 ///
 /// ```
 /// # use scaleview::{Class, Error, Registry, TypeKind};
@@ -333,3 +335,12 @@ impl DoubleEndedIterator for Types<'_> {
 impl ExactSizeIterator for Types<'_> {}
 
 impl FusedIterator for Types<'_> {}
+
+impl<'r> IntoIterator for &'r Registry {
+    type Item = Type<'r>;
+    type IntoIter = Types<'r>;
+
+    fn into_iter(self) -> Types<'r> {
+        self.types()
+    }
+}

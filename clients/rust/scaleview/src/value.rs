@@ -13,6 +13,8 @@ use std::{fmt, slice, str};
 /// [`root`](Value::root) is the view of the complete value; what a view offers is offered here too.
 /// It displays as the JSON that [`Registry::decode_json`] returns, and so does every part.
 ///
+/// # Examples
+///
 /// ```
 /// # use scaleview::{Error, Kind, Registry};
 /// # fn main() -> Result<(), Error> {
@@ -235,6 +237,18 @@ impl<'a> ValueRef<'a> {
     }
 
     /// Returns what it is.
+    ///
+    /// # Examples
+    ///
+    /// ```
+    /// # use scaleview::{Error, Kind, Registry};
+    /// # fn main() -> Result<(), Error> {
+    /// let registry = Registry::open(b"\x04\x00\x00\x00\x05\x05\x00")?;
+    /// let value = registry.decode(0, b"\x2a\x00\x00\x00")?;
+    /// assert_eq!(value.root().kind(), Kind::Unsigned(42));
+    /// # Ok(())
+    /// # }
+    /// ```
     pub fn kind(self) -> Kind<'a> {
         let node = self.node();
         let number = u128::from(node.high) << 64 | u128::from(node.low);
@@ -263,6 +277,20 @@ impl<'a> ValueRef<'a> {
 
     /// Returns its parts: the fields of a composite, a tuple or a variant, or the elements of a
     /// list. Others have none.
+    ///
+    /// # Examples
+    ///
+    /// ```
+    /// # use scaleview::{Error, Registry};
+    /// # fn main() -> Result<(), Error> {
+    /// // A u16, and a sequence of it.
+    /// let registry = Registry::open(b"\x08\x00\x00\x00\x05\x04\x00\x04\x00\x00\x02\x00\x00")?;
+    /// let value = registry.decode(1, b"\x08\x01\x00\x02\x00")?;
+    /// let numbers = value.root().children().filter_map(|child| child.as_u128());
+    /// assert_eq!(numbers.collect::<Vec<_>>(), [1, 2]);
+    /// # Ok(())
+    /// # }
+    /// ```
     pub fn children(self) -> Children<'a> {
         let rest = ValueRef {
             nodes: self.nodes.get(1..).unwrap_or_default(),
@@ -275,6 +303,20 @@ impl<'a> ValueRef<'a> {
     }
 
     /// Returns the part at this position. It passes all parts before it.
+    ///
+    /// # Examples
+    ///
+    /// ```
+    /// # use scaleview::{Error, Registry};
+    /// # fn main() -> Result<(), Error> {
+    /// // A u16, and a sequence of it.
+    /// let registry = Registry::open(b"\x08\x00\x00\x00\x05\x04\x00\x04\x00\x00\x02\x00\x00")?;
+    /// let value = registry.decode(1, b"\x08\x01\x00\x02\x00")?;
+    /// assert_eq!(value.root().child(1).and_then(|child| child.as_u128()), Some(2));
+    /// assert!(value.root().child(2).is_none());
+    /// # Ok(())
+    /// # }
+    /// ```
     pub fn child(self, position: usize) -> Option<ValueRef<'a>> {
         self.children().nth(position)
     }
@@ -294,6 +336,22 @@ impl<'a> ValueRef<'a> {
     }
 
     /// Returns the fields of a composite, a tuple or a variant with their names. Others have none.
+    ///
+    /// # Examples
+    ///
+    /// ```
+    /// # use scaleview::{Error, Registry};
+    /// # fn main() -> Result<(), Error> {
+    /// # let bytes = b"\x08\x00\x00\x00\x05\x05\x00\x04\x04\x10Pair\x00\x00\x08\
+    /// #     \x01\x04a\x00\x00\x00\x01\x04b\x00\x00\x00\x00";
+    /// // struct Pair { a: u32, b: u32 }
+    /// let registry = Registry::open(bytes)?;
+    /// let value = registry.decode(1, b"\x07\0\0\0\x09\0\0\0")?;
+    /// let names = value.root().fields().map(|(name, _)| name);
+    /// assert_eq!(names.collect::<Vec<_>>(), [Some("a"), Some("b")]);
+    /// # Ok(())
+    /// # }
+    /// ```
     pub fn fields(self) -> Fields<'a> {
         let list = self.list();
         let children = if list.is_some() {
@@ -313,6 +371,22 @@ impl<'a> ValueRef<'a> {
     }
 
     /// Returns the field of this name, of a composite or of a variant.
+    ///
+    /// # Examples
+    ///
+    /// ```
+    /// # use scaleview::{Error, Registry};
+    /// # fn main() -> Result<(), Error> {
+    /// # let bytes = b"\x08\x00\x00\x00\x05\x05\x00\x04\x04\x10Pair\x00\x00\x08\
+    /// #     \x01\x04a\x00\x00\x00\x01\x04b\x00\x00\x00\x00";
+    /// // struct Pair { a: u32, b: u32 }
+    /// let registry = Registry::open(bytes)?;
+    /// let value = registry.decode(1, b"\x07\0\0\0\x09\0\0\0")?;
+    /// assert_eq!(value.root().get("b").and_then(|b| b.as_u128()), Some(9));
+    /// assert!(value.root().get("c").is_none());
+    /// # Ok(())
+    /// # }
+    /// ```
     pub fn get(self, name: &str) -> Option<ValueRef<'a>> {
         let position = self
             .list()?
@@ -335,6 +409,23 @@ impl<'a> ValueRef<'a> {
     }
 
     /// Returns the variant's name and its fields.
+    ///
+    /// # Examples
+    ///
+    /// ```
+    /// # use scaleview::{Error, Registry};
+    /// # fn main() -> Result<(), Error> {
+    /// # let bytes = b"\x08\x00\x00\x00\x05\x05\x00\x04\x04\x18Option\x00\x01\x08\
+    /// #     \x10None\x00\x00\x00\x10Some\x04\x00\x00\x00\x00\x01\x00\x00";
+    /// // enum Option { None, Some(u32) }
+    /// let registry = Registry::open(bytes)?;
+    /// let value = registry.decode(1, b"\x01\x2a\0\0\0")?;
+    /// let (name, mut fields) = value.root().variant().unwrap();
+    /// assert_eq!(name, "Some");
+    /// assert_eq!(fields.next().and_then(|field| field.as_u128()), Some(42));
+    /// # Ok(())
+    /// # }
+    /// ```
     pub fn variant(self) -> Option<(&'a str, Children<'a>)> {
         self.variant_name().map(|name| (name, self.children()))
     }

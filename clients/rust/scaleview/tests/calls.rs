@@ -303,7 +303,7 @@ fn an_answer_is_kept() {
 #[test]
 fn long_values_are_answered_as_short_ones() {
     let registry = Registry::open(BYTES).unwrap();
-    for count in [1000, 4000, 20_000] {
+    for count in [1000, 4000, 20_000, 300_000] {
         let mut value = [compact(count as u32), vec![7; count]].concat();
         let text = format!("\"0x{}\"", "07".repeat(count));
         assert_eq!(registry.decode_json(1, &value).as_ref(), Ok(&text));
@@ -325,6 +325,25 @@ fn long_values_are_answered_as_short_ones() {
             registry.decode_json(1, &value),
             Err(value_error(ValueReason::Truncated, count as u64))
         );
+    }
+}
+
+#[test]
+fn large_values_are_rejected_as_small_ones() {
+    let registry = Registry::open(BYTES).unwrap();
+    for count in [4000, 400_000] {
+        let value = [compact(count as u32), vec![7; count]].concat();
+        let rejected = |id, limits| registry.decode_within(id, &value, limits).err();
+        let limits = Limits::new();
+        assert_eq!(rejected(1, limits), None);
+        assert_eq!(rejected(2, limits), Some(Error::UnknownType { id: 2 }));
+        let too_deep = limits.depth(1025);
+        assert_eq!(rejected(1, too_deep), Some(Error::LimitOutOfRange));
+        let too_long = value_error(ValueReason::TooLong, 3000);
+        assert_eq!(rejected(1, limits.bytes(3000)), Some(too_long));
+        assert_eq!(rejected(1, limits.memory(3000)), Some(Error::Memory));
+        let trailing = value_error(ValueReason::TrailingBytes, 1);
+        assert_eq!(rejected(0, limits), Some(trailing));
     }
 }
 

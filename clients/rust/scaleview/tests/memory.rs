@@ -12,6 +12,8 @@ use std::ptr;
 thread_local! {
     /// How many allocations of this thread succeed.
     static LEFT: Cell<usize> = const { Cell::new(usize::MAX) };
+    /// How many bytes this thread has allocated.
+    static ALLOCATED: Cell<usize> = const { Cell::new(0) };
 }
 
 /// The system's allocator, which fails after so many allocations. The library has its own.
@@ -28,6 +30,7 @@ unsafe impl GlobalAlloc for Limited {
             return ptr::null_mut();
         }
         LEFT.set(if left == usize::MAX { left } else { left - 1 });
+        ALLOCATED.set(ALLOCATED.get() + layout.size());
         // SAFETY: the caller keeps to the same rules.
         unsafe { System.alloc(layout) }
     }
@@ -135,6 +138,31 @@ fn each_allocation_may_fail() {
     check("finish", || session.finish().map(|_| ()));
     check("finish_json", || session.finish_json());
     assert_eq!(session.finish_json(), Ok(decoded.to_string()));
+}
+
+/// An enum of one variant, and a sequence of it: each byte is a node.
+const ONES: &[u8] = b"\x08\x00\0\0\x01\x04\x04A\0\0\0\0\x04\0\0\x02\0\0";
+
+#[test]
+fn a_large_value_is_allocated_once() {
+    const COUNT: usize = 1 << 20;
+    let registry = Registry::open(ONES).unwrap();
+    let bytes = [compact(COUNT as u32), vec![0; COUNT]].concat();
+    let before = ALLOCATED.get();
+    let value = registry.decode(1, &bytes).unwrap();
+    let allocated = ALLOCATED.get() - before;
+    assert_eq!(value.children().len(), COUNT);
+    // 32 bytes for each node, and the names of the types.
+    let size = 32 * (COUNT + 1);
+    assert!((size..size + 4096).contains(&allocated), "{allocated}");
+}
+
+#[test]
+fn large_values_may_lack_memory() {
+    let value = [compact(1 << 18), vec![0; 1 << 18]].concat();
+    check("decode a large value", || {
+        Registry::open(ONES).and_then(|registry| registry.decode(1, &value).map(|_| ()))
+    });
 }
 
 /// A text on the stack, which takes no memory.

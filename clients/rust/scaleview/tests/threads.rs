@@ -4,6 +4,7 @@ mod common;
 
 use common::*;
 use scaleview::{Error, Item, Limits, OwnedSession, Progress, Registry, Session, Value};
+use std::collections::HashSet;
 use std::path::Path;
 use std::sync::{Arc, Barrier, OnceLock};
 use std::{fs, thread};
@@ -197,9 +198,10 @@ fn a_stack_of_two_mebibytes_holds_deep_items() {
         let item = item(1_200);
         assert!(item.clone() == item);
         assert_eq!(format!("{item:?}").matches("Next").count(), 1_200);
+        assert!(HashSet::from([item.clone()]).contains(&item));
     });
     let page = include_str!("../src/item.rs");
-    assert!(page.contains("holds 8,000 levels to drop and 1,200 to clone, compare or format"));
+    assert!(page.contains("holds 8,000 levels to drop and 1,200 to clone, compare, format or"));
 }
 
 /// What this crate does itself takes no stack for a level, nor do the calls for nodes.

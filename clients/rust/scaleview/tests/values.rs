@@ -5,6 +5,7 @@ mod common;
 use common::*;
 use scaleview::{
     Class, Error, Item, Kind, Limits, Memory, NodeReason, Primitive, Registry, TypeKind,
+    ValueReason,
 };
 use std::fs;
 use std::iter::FusedIterator;
@@ -448,15 +449,15 @@ fn items_may_be_as_deep_as_values() {
 
 const FIELDS: u32 = 99_999;
 
-/// A composite with very many fields, of which the last is a u8 and the others are empty: type 2.
+/// A composite with so many fields, of which the last is a u8 and the others are empty: type 2.
 /// Type 3 is a sequence of it.
-fn many_fields() -> Registry {
+fn many_fields(count: u32) -> Registry {
     let unit = b"\x00\x00\x00\x04\x00\x00";
     let field = |type_id: u8| [0, type_id * 4, 0, 0];
-    let fields = [field(0).repeat(FIELDS as usize - 1), field(1).to_vec()].concat();
+    let fields = [field(0).repeat(count as usize - 1), field(1).to_vec()].concat();
     let composite = [
         b"\x08\x00\x00\x00".as_slice(),
-        &compact(FIELDS),
+        &compact(count),
         &fields,
         b"\x00",
     ]
@@ -474,7 +475,7 @@ fn many_fields() -> Registry {
 
 #[test]
 fn a_composite_of_many_fields_is_walked_soon() {
-    let registry = many_fields();
+    let registry = many_fields(FIELDS);
     let begun = Instant::now();
     let value = registry.decode(2, b"\x2a").unwrap();
     assert_eq!(value.children().last().unwrap().as_u128(), Some(42));
@@ -497,7 +498,7 @@ fn a_composite_of_many_fields_is_walked_soon() {
 
 #[test]
 fn memory_is_bounded_where_no_budget_is_given() {
-    let registry = many_fields();
+    let registry = many_fields(FIELDS);
     // Six million nodes.
     let many = [vec![60 * 4], vec![7; 60]].concat();
     assert_eq!(registry.decode(3, &many).err(), Some(Error::Memory));
@@ -511,6 +512,20 @@ fn memory_is_bounded_where_no_budget_is_given() {
     let mut none = limits;
     none.memory = Memory::AtMost(0);
     assert_eq!(registry.decode_within(2, b"\x2a", none), Err(Error::Memory));
+}
+
+#[test]
+fn the_default_budget_of_a_large_value_is_by_its_length() {
+    // 300,000 bytes of twenty million nodes, which may take 64 MiB and 64 times 300,000 bytes.
+    let registry = many_fields(64);
+    let many = [compact(300_000), vec![7; 300_000]].concat();
+    assert_eq!(registry.decode(3, &many).err(), Some(Error::Memory));
+    let few = [compact(1000), vec![7; 300_000]].concat();
+    let trailing = Error::Value {
+        reason: ValueReason::TrailingBytes,
+        place: 1002,
+    };
+    assert_eq!(registry.decode(3, &few).err(), Some(trailing));
 }
 
 /// Compacts of wrappers of wrappers: each compact's target is far away, and is found once.
