@@ -384,11 +384,26 @@ static int find_arm(const struct writer *writer, const struct type_info *info, P
     return is_found < 0 ? -1 : 0;
 }
 
+/* Finds the arm of that index, which has to have that name. */
+static int find_arm_by_index(const struct writer *writer, const struct type_info *info, PyObject *name, int index,
+                             uint32_t *arm) {
+    uint32_t found = info->arms_by_index[index];
+    if (found == NO_ARM) return fail(writer, PyExc_ValueError, "there is no arm %R of index %d", name, index);
+    int is_same = PyObject_RichCompareBool(info->arms[found].name, name, Py_EQ);
+    if (is_same < 0) return -1;
+    if (is_same == 0)
+        return fail(writer, PyExc_ValueError, "the arm of index %d is %R, not %R", index, info->arms[found].name, name);
+    *arm = found;
+    return 0;
+}
+
 static int put_variant(struct writer *writer, uint32_t type, const struct type_info *info, PyObject *value) {
     PyObject *name, *fields;
+    int index = NO_INDEX;
     if (Py_TYPE(value) == variant_class) {
         name = variant_name(value);
         fields = variant_fields(value);
+        index = variant_index(value);
     } else if (PyTuple_Check(value) && PyTuple_Size(value) == 2 && PyUnicode_Check(PyTuple_GetItem(value, 0))) {
         name = PyTuple_GetItem(value, 0);
         fields = PyTuple_GetItem(value, 1);
@@ -396,7 +411,9 @@ static int put_variant(struct writer *writer, uint32_t type, const struct type_i
         return expected(writer, "a Variant or a pair of a name and fields", value);
     }
     uint32_t arm = 0;
-    if (find_arm(writer, info, name, fields, &arm) < 0) return -1;
+    int is_found = index == NO_INDEX ? find_arm(writer, info, name, fields, &arm)
+                                     : find_arm_by_index(writer, info, name, index, &arm);
+    if (is_found < 0) return -1;
     const struct arm *of_arm = &info->arms[arm];
     scaleview_node node = {SCALEVIEW_NODE_ARM, type, 0, arm, 0, 0};
     writer->arm = of_arm->name;

@@ -21,6 +21,8 @@ enum {
     MEMORY_OF_A_BYTE = 64,  /* what each byte of the input adds to it */
     LONG_INPUT = 1 << 12,   /* calls on this many bytes release the GIL */
     KEPT_SCRATCH = 1 << 20, /* scratch memory above this many bytes is freed after a call */
+    MOST_INDEX = 255,       /* the greatest index of an arm */
+    NO_INDEX = -1,          /* a Variant that was made without an index */
 };
 
 /* The fields of a composite or of an arm, or the members of a tuple. */
@@ -45,10 +47,12 @@ struct type_info {
     struct fields fields;
     struct arm *arms;
     PyObject *arm_positions; /* a dict by name of the first arms that aren't shadowed */
+    uint32_t *arms_by_index; /* of a variant, the position of the first arm of each index, or NO_ARM */
     uint32_t target;         /* the primitive that a compact wraps, or NO_TARGET */
 };
 
 #define NO_TARGET UINT32_MAX
+#define NO_ARM UINT32_MAX
 
 /* A thread that waits for its turn on a registry. */
 struct waiter {
@@ -142,9 +146,10 @@ PyObject *find_path(struct shared *shared, uint32_t from, PyObject *path);
 /* variant.c: the class of variants' values. */
 extern PyTypeObject *variant_class;
 int make_variant_class(PyObject *module);
-PyObject *variant_of(PyObject *name, PyObject *fields);
+PyObject *variant_of(PyObject *name, PyObject *fields, int index);
 PyObject *variant_name(PyObject *variant);
 PyObject *variant_fields(PyObject *variant);
+int variant_index(PyObject *variant);
 
 /* values.c: values of nodes. */
 PyObject *value_of(struct shared *shared, const scaleview_node *nodes, size_t count, const uint8_t *pool);

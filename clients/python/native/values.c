@@ -7,7 +7,7 @@ enum { FEW = 24, HEX_DIGITS = 64 };
 struct level {
     PyObject *container; /* a list, a tuple or a dict */
     PyObject **names;    /* the keys of a dict */
-    PyObject *arm;       /* the name of a variant's arm, borrowed */
+    const struct arm *arm;
     uint32_t at, count;
     enum { A_LIST, A_TUPLE, A_DICT } kind;
 };
@@ -83,8 +83,8 @@ static int open_level(struct reader *reader, const scaleview_node *node, struct 
         const struct type_info *info = info_of(reader->shared, node->type);
         if (!info) return -1;
         if (node->kind == SCALEVIEW_NODE_ARM) {
-            level->arm = info->arms[node->arm].name;
-            fields = &info->arms[node->arm].fields;
+            level->arm = &info->arms[node->arm];
+            fields = &level->arm->fields;
         } else {
             fields = &info->fields;
             level->kind = A_TUPLE;
@@ -113,7 +113,8 @@ static int put_item(struct level *level, PyObject *item) {
 }
 
 static PyObject *close_level(struct level *level) {
-    return level->arm ? variant_of(level->arm, level->container) : level->container;
+    const struct arm *arm = level->arm;
+    return arm ? variant_of(arm->name, level->container, (int)arm->index) : level->container;
 }
 
 static int push_level(struct reader *reader, struct level level) {

@@ -184,6 +184,31 @@ class Values(unittest.TestCase):
         for fields in ([], (), {}):
             self.assertEqual(registry.encode(1, ("End", fields)), b"\7")
 
+    def test_arms_of_one_name_come_back_by_their_index(self) -> None:
+        # The arm B is shadowed by the second A.
+        arms = (("A", 4, ((None, 0),)), ("A", 9, ((None, 0),)), ("B", 9, ()), ("C", 0, ()))
+        registry = Registry(make.registry_of(make.primitive("u8"), make.variant(*arms), make.sequence(1)))
+        for data, index in (("0407", 4), ("0907", 9)):
+            decoder = Decoder(registry, 1)
+            decoder.feed(bytes.fromhex(data))
+            for found in (registry.decode(1, bytes.fromhex(data)), decoder.finish()):
+                self.assertEqual((found.name, found.fields, found.index), ("A", [7], index))
+                copies = [pickle.loads(pickle.dumps(found)), copy.deepcopy(found), eval(repr(found))]
+                for value in (found, *copies):
+                    self.assertEqual(registry.encode(1, value).hex(), data)
+        self.assertEqual(registry.encode(1, Variant("A", [7])).hex(), "0407")
+        self.assertEqual(registry.encode(1, Variant("C", {}, 0)).hex(), "00")
+        for value, message in (
+            (Variant("C", [], 4), "value[1]: the arm of index 4 is 'A', not 'C'"),
+            (Variant("B", [], 9), "value[1]: the arm of index 9 is 'A', not 'B'"),
+            (Variant("A", [7], 5), "value[1]: there is no arm 'A' of index 5"),
+            (Variant("A", [7], 255), "value[1]: there is no arm 'A' of index 255"),
+            (Variant("A", [], 9), "value[1].A: expected 1 fields, not 0"),
+        ):
+            with self.assertRaises(ValueError) as raised:
+                registry.encode(2, [Variant("C"), value])
+            self.assertEqual(str(raised.exception), message)
+
     def test_stored_values_of_the_examples(self) -> None:
         count = 0
         for name, registry, type_id, data, text in examples():
@@ -263,6 +288,24 @@ class Classes(unittest.TestCase):
         for wrong in ((), ("a", 5), (5, []), ("a", None), ("a", Variant("b")), ("a", [], [])):
             with self.assertRaises(TypeError):
                 Variant(*wrong)
+
+    def test_a_variant_keeps_its_index_which_is_not_compared(self) -> None:
+        value = Variant("Some", [5], 1)
+        self.assertEqual((value.index, Variant("Some", [5]).index, Variant("Some", index=0).index), (1, None, 0))
+        self.assertEqual(repr(value), "Variant('Some', [5], index=1)")
+        self.assertTrue(value == Variant("Some", [5]) == Variant("Some", [5], index=255))
+        self.assertFalse(value != Variant("Some", [5], None))
+        copies = [pickle.loads(pickle.dumps(value, protocol)) for protocol in range(pickle.HIGHEST_PROTOCOL + 1)]
+        for other in (*copies, copy.copy(value), copy.deepcopy(value)):
+            self.assertEqual((other, other.index), (value, 1))
+        self.assertIsNone(copy.copy(Variant("Some")).index)
+        for number in (-1, 256, 1 << 64):
+            with self.assertRaisesRegex(OverflowError, "^index is out of range: it has to be in 0 to 255$"):
+                Variant("Some", [5], number)
+        with self.assertRaises(TypeError):
+            Variant("Some", [5], "1")  # type: ignore[arg-type]
+        with self.assertRaises(AttributeError):
+            value.index = 2  # type: ignore[misc]
 
     @unittest.skipIf(sys.version_info < (3, 10), "there is no match statement before 3.10")
     def test_variants_are_matched(self) -> None:
@@ -713,7 +756,7 @@ class Arguments(unittest.TestCase):
             (Registry.encode, "(self, /, type, value, *, depth=64, memory=Ellipsis)"),
             (Decoder, f"(registry, type, *, {rest}"),
             (Decoder.feed, "(self, piece, /)"),
-            (Variant, "(name, fields=[])"),
+            (Variant, "(name, fields=[], index=None)"),
         ):
             self.assertEqual(str(inspect.signature(call)), signature)
 
