@@ -14,45 +14,24 @@ struct decoder {
 
 static PyTypeObject *decoder_class;
 
-static const char torn[] = "the process was forked during a call on a decoder of this registry: open another registry";
-
 static PyObject *decoder_new(PyTypeObject *class, PyObject *args, PyObject *keywords) {
     static char *names[] = {"registry", "type", "depth", "limit", "memory", NULL};
     PyObject *registry, *type_object, *depth = NULL, *limit = NULL, *memory = NULL;
-    struct limits limits;
-    uint32_t type;
-    scaleview_answer answer;
+    struct call call = {0};
     if (!PyArg_ParseTupleAndKeywords(args, keywords, "O!O|$OOO:Decoder", names, registry_class, &registry, &type_object,
                                      &depth, &limit, &memory))
         return NULL;
-    if (read_type(registry, type_object, &type) < 0 || read_limits(depth, limit, memory, &limits) < 0) return NULL;
+    if (read_type(registry, type_object, &call.type) < 0) return NULL;
+    if (read_limits(depth, limit, memory, &call.limits) < 0) return NULL;
     struct decoder *self = (struct decoder *)PyType_GenericAlloc(class, 0);
     if (!self) return NULL;
-    self->type = type;
-    self->depth = limits.depth;
-    self->memory = limits.memory = budget_of(&limits, limits.limit);
-    self->shared = shared_of(registry);
-    struct held *held = self->shared ? calloc(1, sizeof *held) : NULL;
-    if (!held) {
-        if (self->shared) PyErr_NoMemory();
-        Py_DECREF(self);
-        return NULL;
-    }
-    enter(self->shared, true);
-    bool is_torn = self->shared->is_torn;
-    if (!is_torn)
-        scaleview_start(self->shared->registry, type, limits.depth, limits.limit, limits.memory, &held->session, &answer);
-    leave(self->shared);
-    if (!is_torn && answer.code == SCALEVIEW_OK) {
-        self->held = held;
-        return (PyObject *)self;
-    }
-    free(held);
+    self->type = call.type;
+    self->depth = call.limits.depth;
+    self->memory = budget_of(&call.limits, call.limits.limit);
+    self->shared = call.shared = shared_of(registry);
+    self->held = call.shared ? start_session(&call, self->memory, -1) : NULL;
+    if (self->held) return (PyObject *)self;
     Py_DECREF(self);
-    if (is_torn)
-        PyErr_SetString(PyExc_RuntimeError, torn);
-    else
-        raise_answer(&answer, type, -1, limits.memory);
     return NULL;
 }
 
@@ -83,7 +62,7 @@ static scaleview_session *begin(struct decoder *self) {
     if (self->held && !is_torn) return &self->held->session;
     leave(self->shared);
     if (is_torn)
-        PyErr_SetString(PyExc_RuntimeError, torn);
+        raise_torn();
     else
         PyErr_SetString(PyExc_ValueError, "the decoder is closed");
     return NULL;

@@ -105,6 +105,24 @@ struct limits {
     uint64_t limit, memory;
 };
 
+/* The arguments of a call on a registry. */
+struct call {
+    struct shared *shared;
+    PyObject *value; /* borrowed */
+    uint32_t type;
+    struct limits limits;
+};
+
+/* The bytes of a value, and what it may take. */
+struct input {
+    const struct call *call;
+    const uint8_t *bytes;
+    size_t length;
+    Py_ssize_t item; /* its position among several, or -1 */
+    uint64_t memory; /* the budget, or 0 for none */
+    bool is_front;   /* other bytes may follow the value */
+};
+
 /* shared.c: registries, turns and memory. */
 struct shared *open_shared(const uint8_t *bytes, size_t length, bool metadata);
 struct shared *retain(struct shared *shared);
@@ -150,6 +168,11 @@ PyObject *variant_of(PyObject *name, PyObject *fields, int index);
 PyObject *variant_name(PyObject *variant);
 PyObject *variant_fields(PyObject *variant);
 int variant_index(PyObject *variant);
+
+/* pieces.c: sessions, and values decoded in pieces. */
+void raise_torn(void);
+struct held *start_session(const struct call *call, uint64_t memory, Py_ssize_t item);
+PyObject *decode_pieces(const struct input *input, size_t *used);
 
 /* values.c: values of nodes. */
 PyObject *value_of(struct shared *shared, const scaleview_node *nodes, size_t count, const uint8_t *pool);

@@ -54,14 +54,6 @@ static void registry_dealloc(PyObject *self) {
     Py_DECREF(class);
 }
 
-/* The arguments of a call on a registry. */
-struct call {
-    struct shared *shared;
-    PyObject *value; /* borrowed */
-    uint32_t type;
-    struct limits limits;
-};
-
 /* Reads the arguments, and takes a reference to the registry, which the caller releases. */
 static int read_call(PyObject *self, PyObject *args, PyObject *keywords, const char *format, char **names,
                      struct call *call) {
@@ -122,6 +114,21 @@ static PyObject *registry_decode(PyObject *self, PyObject *args, PyObject *keywo
     PyObject *value = decode_one(&call, call.value, -1);
     release(call.shared);
     return value;
+}
+
+static PyObject *registry_decode_prefix(PyObject *self, PyObject *args, PyObject *keywords) {
+    struct call call;
+    struct input input = {&call, NULL, 0, -1, 0, true};
+    size_t used;
+    if (read_call(self, args, keywords, "OO|$OOO:decode_prefix", decode_names, &call) < 0) return NULL;
+    PyObject *kept = bytes_of(call.value, &input.bytes, &input.length), *value = NULL;
+    if (kept) {
+        input.memory = budget_of(&call.limits, input.length);
+        value = decode_pieces(&input, &used);
+        Py_DECREF(kept);
+    }
+    release(call.shared);
+    return value ? Py_BuildValue("(NK)", value, (unsigned long long)used) : NULL;
 }
 
 static PyObject *registry_decode_many(PyObject *self, PyObject *args, PyObject *keywords) {
@@ -310,6 +317,10 @@ static PyMethodDef methods[] = {
     {"decode_json", (PyCFunction)(void (*)(void))registry_decode_json, KEYWORDS,
      "decode_json($self, /, type, data, *, depth=64, limit=16777216, memory=...)\n--\n\n"
      "Returns the value as JSON text. The arguments and exceptions are those of `decode`."},
+    {"decode_prefix", (PyCFunction)(void (*)(void))registry_decode_prefix, KEYWORDS,
+     "decode_prefix($self, /, type, data, *, depth=64, limit=16777216, memory=...)\n--\n\n"
+     "Returns the value that the first bytes spell, and how many bytes it takes.\n\n"
+     "What follows the value isn't read. The arguments and exceptions are those of `decode`."},
     {"decode_many", (PyCFunction)(void (*)(void))registry_decode_many, KEYWORDS,
      "decode_many($self, /, type, items, *, depth=64, limit=16777216, memory=...)\n--\n\n"
      "Returns a list of the values of one type. The numbers and exceptions are those of `decode`, and hold\n"

@@ -267,6 +267,69 @@ class Values(unittest.TestCase):
             registry.decode_many(0, failing())
 
 
+class Prefixes(unittest.TestCase):
+    registry = Registry(
+        make.registry_of(
+            make.primitive("u8"), make.sequence(0), make.members(), make.primitive("u32"), make.sequence(2),
+            make.variant(("End", 0, ()), ("Next", 1, ((None, 5),))), make.primitive("bool"), make.sequence(3),
+        )
+    )
+
+    def test_a_value_comes_with_the_number_of_its_bytes(self) -> None:
+        cases: list[tuple[int, str, Any, int]] = [
+            (0, "07", 7, 1),
+            (0, "0708", 7, 1),
+            (1, "0c010203", b"\1\2\3", 4),
+            (1, "0c010203ff00", b"\1\2\3", 4),
+            (1, "00ff", b"", 1),
+            (2, "", None, 0),
+            (2, "ff", None, 0),
+            (3, "0102000005", 0x201, 4),
+            (4, "0cff", Empties(3), 1),
+            (5, "010000", Variant("Next", [Variant("End")]), 2),
+        ]
+        for type_id, data, value, used in cases:
+            given = bytes.fromhex(data)
+            for buffer in (given, bytearray(given), memoryview(given)):
+                with self.subTest(data):
+                    self.assertEqual(self.registry.decode_prefix(type_id, buffer), (value, used))
+
+    def test_values_are_read_one_after_another(self) -> None:
+        data, values = bytes.fromhex("0401" + "080203" + "00" + "0c040506"), []
+        while data:
+            value, used = self.registry.decode_prefix(self.registry.types[1], data)
+            values.append(value)
+            data = data[used:]
+        self.assertEqual(values, [b"\1", b"\2\3", b"", b"\4\5\6"])
+
+    def test_a_long_value_is_read_with_bytes_after_it(self) -> None:
+        count = 100_000
+        data = make.compact(count) + bytes(4 * count)
+        for rest in (b"", b"\xff", b"\xff" * 500_000):
+            self.assertEqual(self.registry.decode_prefix(7, data + rest), ([0] * count, 4 + 4 * count))
+        with self.assertRaisesRegex(Refused, f"^value: Truncated at {3 + 4 * count}$"):
+            self.registry.decode_prefix(7, data[:-1])
+
+    def test_a_wrong_beginning_is_rejected(self) -> None:
+        cases: list[tuple[int, bytes, dict[str, int], str]] = [
+            (0, b"", {}, "value: Truncated at 0"),
+            (1, b"\x0c\1\2", {}, "value: Truncated at 3"),
+            (6, b"\2\0", {}, "value: BadBool at 0"),
+            (5, b"\1\1\0", {"depth": 1}, "value: TooDeep at 2"),
+            (3, b"\1\2\3\4\5", {"limit": 2}, "value: TooLong at 2"),
+            (9, b"", {}, "type: UnknownType 9"),
+            (0, b"\1", {"limit": (1 << 40) + 1}, "limits: LimitOutOfRange"),
+        ]
+        for type_id, data, limits, message in cases:
+            with self.subTest(message), self.assertRaises(Refused) as raised:
+                self.registry.decode_prefix(type_id, data, **limits)
+            self.assertEqual((str(raised.exception), raised.exception.item), (message, None))
+        self.assertEqual(self.registry.decode_prefix(3, b"\1\2\0\0\5", limit=4), (0x201, 4))
+        self.assertEqual(self.registry.decode_prefix(5, b"\1\0\0", depth=1)[1], 2)
+        with self.assertRaisesRegex(OutOfMemory, "^the budget of 1000 bytes of memory is reached"):
+            self.registry.decode_prefix(7, make.compact(1000) + bytes(4000), memory=1000)
+
+
 class Classes(unittest.TestCase):
     def test_variants_are_compared_shown_and_copied(self) -> None:
         value = Variant("Some", [Variant("None")])
@@ -542,6 +605,7 @@ class Encoding(unittest.TestCase):
 
         calls: list[Callable[..., object]] = [
             lambda **memory: registry.decode(3, data, **memory),
+            lambda **memory: registry.decode_prefix(3, data, **memory),
             lambda **memory: registry.decode_json(3, data, **memory),
             lambda **memory: registry.decode_many(3, [data], **memory),
             in_pieces,
@@ -626,6 +690,7 @@ class Pieces(unittest.TestCase):
             lambda: registry.decode(0, b"\x00\x00"),
             lambda: registry.decode_json(0, b"\x00\x00"),
             lambda: registry.decode_many(0, []),
+            lambda: registry.decode_prefix(0, b"\x00\x00"),
             lambda: registry.encode(0, 5),
             lambda: registry.types[0],
             lambda: registry.find(""),
@@ -661,6 +726,7 @@ class Arguments(unittest.TestCase):
             lambda type_id, **numbers: registry.decode(type_id, value, **numbers),
             lambda type_id, **numbers: registry.decode(type_id, bytes(9000), **numbers),
             lambda type_id, **numbers: registry.decode_json(type_id, value, **numbers),
+            lambda type_id, **numbers: registry.decode_prefix(type_id, value, **numbers),
             lambda type_id, **numbers: registry.decode_many(type_id, [value], **numbers),
             lambda type_id, **numbers: Decoder(registry, type_id, **numbers),
         ]
@@ -727,8 +793,15 @@ class Arguments(unittest.TestCase):
         wrong: Any
         registry = Registry(U16)
         decoder = Decoder(registry, 0)
+
+        def decode(data: Any) -> Any:
+            return registry.decode(0, data)
+
+        def prefix(data: Any) -> Any:
+            return registry.decode_prefix(0, data)
+
         for wrong in ("00", None, 2, [2, 0]):
-            for call in (Registry, Registry.raw, lambda data: registry.decode(0, data), decoder.feed):
+            for call in (Registry, Registry.raw, decode, prefix, decoder.feed):
                 with self.assertRaisesRegex(TypeError, f"^expected bytes .* not {type(wrong).__name__}$"):
                     call(wrong)
 
@@ -752,6 +825,7 @@ class Arguments(unittest.TestCase):
         for call, signature in (
             (Registry, "(data, *, metadata=None)"),
             (Registry.decode, f"(self, /, type, data, *, {rest}"),
+            (Registry.decode_prefix, f"(self, /, type, data, *, {rest}"),
             (Registry.decode_many, f"(self, /, type, items, *, {rest}"),
             (Registry.encode, "(self, /, type, value, *, depth=64, memory=Ellipsis)"),
             (Decoder, f"(registry, type, *, {rest}"),
@@ -858,7 +932,8 @@ class Types(unittest.TestCase):
             message = f"a type is its position or a Type, not '{type(wrong).__name__}'"
             if isinstance(wrong, str):
                 message += "; find() gives the type of a path"
-            for call in (registry.decode, registry.decode_json, registry.decode_many, registry.encode):
+            calls = (registry.decode, registry.decode_prefix, registry.decode_json, registry.decode_many, registry.encode)
+            for call in calls:
                 with self.assertRaises(TypeError) as raised:
                     call(wrong, b"\x04a")
                 self.assertEqual(str(raised.exception), message)

@@ -74,6 +74,7 @@ class Threads(unittest.TestCase):
                 self.assertEqual(used, (len(data) - 1) % step + 1)
                 self.assertEqual(decoder.finish(), value)
                 self.assertEqual(registry.decode(10, data), value)
+                self.assertEqual(registry.decode_prefix(10, data + data), (value, len(data)))
                 self.assertEqual(registry.encode(10, value), data)
                 self.assertEqual(decoder.finish_json(), text)
                 self.assertEqual(registry.decode_json(10, data, depth=1024), text)
@@ -297,6 +298,7 @@ class Memory(unittest.TestCase):
             registry.decode(10, data)
             registry.decode_json(10, data)
             registry.decode_many(10, [data])
+            registry.decode_prefix(10, data + b"\0")
             registry.encode(10, value)
             with Decoder(registry, 10) as decoder:
                 decoder.feed(data)
@@ -308,6 +310,7 @@ class Memory(unittest.TestCase):
                 lambda: registry.decode(10, data[:-1]),
                 lambda: registry.decode_json(10, data[:-1]),
                 lambda: registry.decode_many(10, [data, data[:-1]]),
+                lambda: registry.decode_prefix(10, data[:-1]),
                 lambda: registry.encode(10, [*value, None]),
                 lambda: registry.encode(10, value, depth=2),
                 lambda: Registry(b"meta\x0e\x04"),
@@ -347,6 +350,9 @@ class Memory(unittest.TestCase):
             lambda: [small.decode(n, small.encode(n, -(1 << 20) if n > 10 else 5)) for n in (3, 5, 7, 8, 11, 13, 14)],
             lambda: [small.encode(n, (1 << 127) - 1) for n in (7, 8, 13, 14)],
             lambda: small.decode(16, small.encode(16, [None] * 5)) == small.encode(1, "a") + small.encode(2, "text"),
+            lambda: registry.decode_prefix(10, data + b"\0"),
+            lambda: registry.decode_prefix(10, bytearray(data)),
+            lambda: fail(lambda: registry.decode_prefix(10, data[:-1])),
             lambda: fail(lambda: registry.decode(10, data[:-1])),
             lambda: fail(lambda: registry.decode_many(10, [data, data[:-1]])),
             lambda: fail(lambda: registry.encode(10, [*value, None])),
