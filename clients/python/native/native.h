@@ -20,6 +20,7 @@ enum {
     MEMORY = 1 << 26,       /* the budget of memory where no other is named, for an empty input */
     MEMORY_OF_A_BYTE = 64,  /* what each byte of the input adds to it */
     LONG_INPUT = 1 << 12,   /* calls on this many bytes release the GIL */
+    LONG_VALUE = 1 << 18,   /* values of this many bytes are decoded in pieces */
     KEPT_SCRATCH = 1 << 20, /* scratch memory above this many bytes is freed after a call */
     MOST_INDEX = 255,       /* the greatest index of an arm */
     NO_INDEX = -1,          /* a Variant that was made without an index */
@@ -130,6 +131,7 @@ void release(struct shared *shared);
 void enter(struct shared *shared, bool writes);
 void leave(struct shared *shared);
 void note_fork(void);
+bool is_torn(struct shared *shared);
 void drop(struct shared *shared, struct held *held);
 struct scratch take_scratch(struct shared *shared);
 void give_scratch(struct shared *shared, struct scratch scratch);

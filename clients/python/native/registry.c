@@ -73,24 +73,21 @@ static int read_call(PyObject *self, PyObject *args, PyObject *keywords, const c
 
 static char *decode_names[] = {"type", "data", "depth", "limit", "memory", NULL};
 
-/* Decodes one value. */
-static PyObject *decode_one(const struct call *call, PyObject *data, Py_ssize_t item) {
+/* Decodes a value by one call of the library, during which no signal is handled. */
+static PyObject *decode_at_once(const struct input *input) {
+    const struct call *call = input->call;
     struct shared *shared = call->shared;
-    const uint8_t *bytes;
-    size_t length;
-    PyObject *kept = bytes_of(data, &bytes, &length), *value = NULL;
-    if (!kept) return NULL;
-    uint64_t memory = budget_of(&call->limits, length);
+    size_t length = input->length, nodes = length / 4 + 32;
     struct scratch scratch = take_scratch(shared);
-    size_t nodes = length / 4 + 32;
+    PyObject *value = NULL;
     for (;;) {
         scaleview_answer answer;
         if (make_room(&scratch, nodes, length + 1) < 0) break;
         enter(shared, false);
         PyThreadState *state = length >= LONG_INPUT ? PyEval_SaveThread() : NULL;
         uint32_t code = scaleview_decode_nodes(shared->registry, call->type, call->limits.depth, call->limits.limit,
-                                               memory, bytes, length, scratch.nodes, scratch.node_room,
-                                               scratch.bytes, scratch.byte_room, &answer);
+                                               input->memory, input->bytes, length, scratch.nodes,
+                                               scratch.node_room, scratch.bytes, scratch.byte_room, &answer);
         if (state) PyEval_RestoreThread(state);
         leave(shared);
         if (code == SCALEVIEW_NO_ROOM) {
@@ -99,11 +96,25 @@ static PyObject *decode_one(const struct call *call, PyObject *data, Py_ssize_t 
         } else if (code == SCALEVIEW_OK) {
             value = value_of(shared, scratch.nodes, (size_t)answer.length, scratch.bytes);
         } else {
-            raise_answer(&answer, call->type, item, memory);
+            raise_answer(&answer, call->type, input->item, input->memory);
         }
         break;
     }
     give_scratch(shared, scratch);
+    return value;
+}
+
+/* Decodes one value. */
+static PyObject *decode_one(const struct call *call, PyObject *data, Py_ssize_t item) {
+    struct input input = {call, NULL, 0, item, 0, false};
+    PyObject *kept = bytes_of(data, &input.bytes, &input.length), *value;
+    size_t used;
+    if (!kept) return NULL;
+    input.memory = budget_of(&call->limits, input.length);
+    if (input.length >= LONG_VALUE && !is_torn(call->shared))
+        value = decode_pieces(&input, &used);
+    else
+        value = decode_at_once(&input);
     Py_DECREF(kept);
     return value;
 }
@@ -138,7 +149,7 @@ static PyObject *registry_decode_many(PyObject *self, PyObject *args, PyObject *
     PyObject *items = PyObject_GetIter(call.value), *values = items ? PyList_New(0) : NULL, *item = NULL;
     for (Py_ssize_t at = 0; values && (item = PyIter_Next(items)); at++) {
         PyObject *value = decode_one(&call, item, at);
-        if (!value || PyList_Append(values, value) < 0) Py_CLEAR(values);
+        if (!value || PyList_Append(values, value) < 0 || PyErr_CheckSignals() < 0) Py_CLEAR(values);
         Py_XDECREF(value);
         Py_DECREF(item);
     }

@@ -22,6 +22,12 @@ static void forget_calls_of_parent(struct shared *shared) {
     shared->first = NULL;
 }
 
+/* Returns whether no session of the registry may be used. */
+bool is_torn(struct shared *shared) {
+    forget_calls_of_parent(shared);
+    return shared->is_torn;
+}
+
 struct shared *open_shared(const uint8_t *bytes, size_t length, bool metadata) {
     struct shared *shared = calloc(1, sizeof *shared);
     if (!shared) return (struct shared *)PyErr_NoMemory();

@@ -1,7 +1,7 @@
 /* Python values of nodes. */
 #include "native.h"
 
-enum { FEW = 24, HEX_DIGITS = 64 };
+enum { FEW = 24, HEX_DIGITS = 64, NODES_BETWEEN_SIGNALS = 1 << 16 };
 
 /* A value that is being filled with those of its node's children. */
 struct level {
@@ -150,6 +150,7 @@ static PyObject *read_nodes(struct reader *reader, const scaleview_node *nodes, 
     for (size_t i = 0; i < count; i++) {
         const scaleview_node *node = &nodes[i];
         PyObject *value;
+        if ((i + 1) % NODES_BETWEEN_SIGNALS == 0 && PyErr_CheckSignals() < 0) return NULL;
         if (node->kind < SCALEVIEW_NODE_FIELDS) {
             value = leaf_of(reader, node);
         } else {

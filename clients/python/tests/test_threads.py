@@ -1,4 +1,4 @@
-"""Registries and decoders in several threads, and what they leave in memory."""
+"""Registries and decoders in several threads, signals, and what calls leave in memory."""
 
 from __future__ import annotations
 
@@ -13,7 +13,7 @@ import time
 import unittest
 import warnings
 import weakref
-from typing import Any, Callable
+from typing import Any, Callable, Iterator
 
 import registries as make
 from scaleview import Decoder, Refused, Registry, Variant
@@ -48,6 +48,22 @@ def run_threads(*bodies: Callable[[], object], stack: int = 0) -> list[BaseExcep
         sys.setswitchinterval(interval)
         threading.stack_size(size)
     return raised
+
+
+@contextlib.contextmanager
+def alarms(handler: Callable[[], object], first: float, interval: float = 0) -> Iterator[None]:
+    """Calls the handler after `first` seconds, and then at each interval if there is one."""
+    before = signal.signal(signal.SIGALRM, lambda number, frame: handler())
+    signal.setitimer(signal.ITIMER_REAL, first, interval)
+    try:
+        yield
+    finally:
+        signal.setitimer(signal.ITIMER_REAL, 0)
+        signal.signal(signal.SIGALRM, before)
+
+
+def interrupt() -> None:
+    raise KeyboardInterrupt
 
 
 def resident() -> int:
@@ -238,6 +254,52 @@ class Threads(unittest.TestCase):
             self.assertEqual(run_threads(lambda: work(depth), stack=128 << 10), [])
 
 
+@unittest.skipUnless(hasattr(signal, "setitimer"), "there is no timer here")
+class Signals(unittest.TestCase):
+    registry = Registry(make.registry_of(make.primitive("bool"), make.sequence(0)))
+    data = make.compact(4 << 20) + bytes(4 << 20)
+
+    def check_handled(self, call: Callable[[], object]) -> None:
+        """A handler is called several times before the call ends, and not once after it."""
+        handled: list[None] = []
+        with alarms(lambda: handled.append(None), 0.001, 0.001):
+            call()
+            count = len(handled)
+        self.assertGreaterEqual(count, 5)
+
+    def test_signals_are_handled_while_bytes_are_read(self) -> None:
+        """No object is made of the bytes, since the last one is wrong."""
+        wrong = self.data[:-1] + b"\2"
+
+        def call() -> None:
+            with self.assertRaisesRegex(Refused, f"^value: BadBool at {len(wrong) - 1}$"):
+                self.registry.decode(1, wrong)
+
+        self.check_handled(call)
+
+    def test_signals_are_handled_while_objects_are_made(self) -> None:
+        """Few bytes, which the library reads in one call, make two million objects."""
+        empties = make.composite((None, 1), *[(None, 0)] * 50_000)
+        registry = Registry(make.registry_of(make.members(), make.primitive("u8"), empties, make.sequence(2)))
+        data = make.compact(40) + bytes(40)
+        self.check_handled(lambda: registry.decode(3, data, memory=None))
+
+    def test_signals_are_handled_between_values(self) -> None:
+        items = [b"\0"] * (1 << 18)
+        self.check_handled(lambda: self.registry.decode_many(0, items))
+
+    def test_an_interrupt_ends_a_call(self) -> None:
+        start = time.monotonic()
+        self.registry.decode(1, self.data)
+        whole = time.monotonic() - start
+        for call in (self.registry.decode, self.registry.decode_prefix):
+            start = time.monotonic()
+            with self.assertRaises(KeyboardInterrupt), alarms(interrupt, whole / 50):
+                call(1, self.data)
+            self.assertLess(time.monotonic() - start, whole / 2)
+        self.assertEqual(self.registry.decode(0, b"\1"), True)
+
+
 @unittest.skipUnless(sys.platform == "linux", "the memory of the process is read from /proc")
 class Memory(unittest.TestCase):
     def check_stays(self, body: Callable[[], object], count: int, most: int) -> None:
@@ -323,6 +385,22 @@ class Memory(unittest.TestCase):
         for body in (calls, failures):
             with self.subTest(body.__name__):
                 self.check_stays(body, 300, 4 << 20)
+
+    def test_an_interrupted_call_leaves_nothing(self) -> None:
+        """A session takes 25 MiB, and the value eight."""
+        registry = Registry(make.registry_of(make.primitive("bool"), make.sequence(0)))
+        data = make.compact(1 << 20) + bytes(1 << 20)
+        start = time.monotonic()
+        registry.decode(1, data)
+        whole = time.monotonic() - start
+        for part in (0.1, 0.4, 0.8):
+
+            def call() -> None:
+                with contextlib.suppress(KeyboardInterrupt), alarms(interrupt, part * whole):
+                    registry.decode(1, data)
+
+            with self.subTest(part):
+                self.check_stays(call, 20, 30 << 20)
 
     def test_calls_leave_no_object(self) -> None:
         registry = Registry((EXAMPLES / "runtime" / "metadata.scale").read_bytes())
