@@ -12,15 +12,16 @@ struct decoder {
     uint64_t memory; /* the budget, or 0 for none */
 };
 
-static PyTypeObject *decoder_class;
-
 static PyObject *decoder_new(PyTypeObject *class, PyObject *args, PyObject *keywords) {
     static char *names[] = {"registry", "type", "depth", "limit", "memory", NULL};
     PyObject *registry, *type_object, *depth = NULL, *limit = NULL, *memory = NULL;
     struct call call = {0};
-    if (!PyArg_ParseTupleAndKeywords(args, keywords, "O!O|$OOO:Decoder", names, registry_class, &registry, &type_object,
-                                     &depth, &limit, &memory))
-        return NULL;
+    PyObject *module = module_of(class);
+    if (!module) return NULL;
+    int is_read = PyArg_ParseTupleAndKeywords(args, keywords, "O!O|$OOO:Decoder", names, state_of(module)->registry_class,
+                                              &registry, &type_object, &depth, &limit, &memory);
+    Py_DECREF(module);
+    if (!is_read) return NULL;
     if (read_type(registry, type_object, &call.type) < 0) return NULL;
     if (read_limits(depth, limit, memory, &call.limits) < 0) return NULL;
     struct decoder *self = (struct decoder *)PyType_GenericAlloc(class, 0);
@@ -85,7 +86,7 @@ static PyObject *decoder_feed(PyObject *object, PyObject *piece) {
     if (!session) return NULL;
     if (answer.code == SCALEVIEW_MORE) return new_ref(Py_None);
     if (answer.code == SCALEVIEW_OK) return PyLong_FromUnsignedLongLong(answer.length);
-    raise_answer(&answer, self->type, -1, self->memory);
+    raise_answer(self->shared->state, &answer, self->type, -1, self->memory);
     return NULL;
 }
 
@@ -121,7 +122,7 @@ static PyObject *decoder_finish(PyObject *object, PyObject *unused) {
         if (answer.code == SCALEVIEW_OK)
             value = value_of(self->shared, scratch.nodes, (size_t)answer.length, scratch.bytes);
         else
-            raise_answer(&answer, self->type, -1, self->memory);
+            raise_answer(self->shared->state, &answer, self->type, -1, self->memory);
         break;
     }
     give_scratch(self->shared, scratch);
@@ -163,7 +164,7 @@ static PyObject *decoder_finish_json(PyObject *object, PyObject *unused) {
         if (code == SCALEVIEW_OK)
             made = PyUnicode_FromStringAndSize((const char *)scratch.bytes, (Py_ssize_t)answer.length);
         else
-            raise_answer(&answer, self->type, -1, self->memory);
+            raise_answer(self->shared->state, &answer, self->type, -1, self->memory);
         break;
     }
     give_scratch(self->shared, scratch);
@@ -271,5 +272,5 @@ static PyType_Slot slots[] = {
 static PyType_Spec spec = {"scaleview.Decoder", sizeof(struct decoder), 0, Py_TPFLAGS_DEFAULT, slots};
 
 int make_decoder_class(PyObject *module) {
-    return add_class(module, &decoder_class, &spec, "Decoder");
+    return add_class(module, &state_of(module)->decoder_class, &spec, "Decoder");
 }

@@ -75,7 +75,7 @@ static int expected(const struct writer *writer, const char *what, PyObject *val
 static int check_budget(const struct writer *writer, size_t nodes, size_t bytes) {
     uint64_t least = LEAST_MEMORY_OF_A_NODE * ((uint64_t)writer->count + nodes) + writer->length + bytes;
     if (writer->memory == 0 || least <= writer->memory) return 0;
-    raise_out_of_memory(writer->memory);
+    raise_out_of_memory(writer->shared->state, writer->memory);
     return -1;
 }
 
@@ -265,7 +265,7 @@ static PyObject *items_of(const struct writer *writer, PyObject *value, Py_ssize
 /* A sequence of elements that take no bytes: an Empties, or so many None. */
 static int put_count(struct writer *writer, uint32_t type, PyObject *value) {
     uint64_t count = 0;
-    int is_empties = PyObject_IsInstance(value, empties_class);
+    int is_empties = PyObject_IsInstance(value, writer->shared->state->empties_class);
     if (is_empties < 0) return -1;
     if (is_empties) {
         PyObject *number = PyObject_GetAttrString(value, "_count");
@@ -400,7 +400,7 @@ static int find_arm_by_index(const struct writer *writer, const struct type_info
 static int put_variant(struct writer *writer, uint32_t type, const struct type_info *info, PyObject *value) {
     PyObject *name, *fields;
     int index = NO_INDEX;
-    if (Py_TYPE(value) == variant_class) {
+    if (Py_TYPE(value) == writer->shared->state->variant_class) {
         name = variant_name(value);
         fields = variant_fields(value);
         index = variant_index(value);
@@ -512,7 +512,7 @@ static void raise_rejected(struct writer *writer, const scaleview_answer *answer
         if (push_level(writer, level) < 0) return;
     }
     PyObject *path = path_here(writer);
-    if (path) raise_rejected_node(answer, path);
+    if (path) raise_rejected_node(writer->shared->state, answer, path);
     Py_XDECREF(path);
 }
 
@@ -539,7 +539,7 @@ static PyObject *bytes_of_nodes(struct writer *writer, uint32_t type, uint16_t d
         } else if (code > 400) {
             raise_rejected(writer, &answer);
         } else {
-            raise_answer(&answer, type, -1, writer->memory);
+            raise_answer(writer->shared->state, &answer, type, -1, writer->memory);
         }
         break;
     }

@@ -1,5 +1,5 @@
 /* What the parts of the extension module share. All functions need the GIL, which also guards all of this data: a module
- * for the limited API isn't loaded by a Python without one. */
+ * for the limited API isn't loaded by a Python without one. Interpreters that share a GIL have a module each. */
 #ifndef NATIVE_H
 #define NATIVE_H
 #define PY_SSIZE_T_CLEAN
@@ -24,6 +24,12 @@ enum {
     KEPT_SCRATCH = 1 << 20, /* scratch memory above this many bytes is freed after a call */
     MOST_INDEX = 255,       /* the greatest index of an arm */
     NO_INDEX = -1,          /* a Variant that was made without an index */
+};
+
+/* The state of a module: the classes of its interpreter. */
+struct state {
+    PyObject *refused_class, *encode_error_class, *out_of_memory_class, *empties_class;
+    PyTypeObject *variant_class, *registry_class, *decoder_class;
 };
 
 /* The fields of a composite or of an arm, or the members of a tuple. */
@@ -79,6 +85,8 @@ struct scratch {
 /* An open registry. The Registry object, each Decoder and each call under way hold a reference. */
 struct shared {
     scaleview_registry registry;
+    PyObject *module; /* which keeps the state */
+    const struct state *state;
     size_t references;
     uint32_t count, version;
     uint64_t end;
@@ -125,7 +133,7 @@ struct input {
 };
 
 /* shared.c: registries, turns and memory. */
-struct shared *open_shared(const uint8_t *bytes, size_t length, bool metadata);
+struct shared *open_shared(PyObject *module, const uint8_t *bytes, size_t length, bool metadata);
 struct shared *retain(struct shared *shared);
 void release(struct shared *shared);
 void enter(struct shared *shared, bool writes);
@@ -139,11 +147,10 @@ int make_room(struct scratch *scratch, size_t nodes, size_t bytes);
 uint32_t with_stack(uint16_t depth, uint32_t (*call)(void *), void *context);
 
 /* errors.c: exceptions, numbers and buffers. */
-extern PyObject *refused_class, *encode_error_class, *out_of_memory_class, *empties_class;
-int import_classes(void);
-void raise_answer(const scaleview_answer *answer, uint32_t type, Py_ssize_t item, uint64_t memory);
-void raise_rejected_node(const scaleview_answer *answer, PyObject *path);
-void raise_out_of_memory(uint64_t memory);
+int import_classes(struct state *state);
+void raise_answer(const struct state *state, const scaleview_answer *answer, uint32_t type, Py_ssize_t item, uint64_t memory);
+void raise_rejected_node(const struct state *state, const scaleview_answer *answer, PyObject *path);
+void raise_out_of_memory(const struct state *state, uint64_t memory);
 PyObject *reason_of(uint32_t code);
 int read_number(const char *name, PyObject *object, uint64_t most, uint64_t *number);
 int read_type(PyObject *registry, PyObject *object, uint32_t *type);
@@ -164,9 +171,8 @@ PyObject *line_of(struct shared *shared, uint32_t type);
 PyObject *find_path(struct shared *shared, uint32_t from, PyObject *path);
 
 /* variant.c: the class of variants' values. */
-extern PyTypeObject *variant_class;
 int make_variant_class(PyObject *module);
-PyObject *variant_of(PyObject *name, PyObject *fields, int index);
+PyObject *variant_of(PyTypeObject *class, PyObject *name, PyObject *fields, int index);
 PyObject *variant_name(PyObject *variant);
 PyObject *variant_fields(PyObject *variant);
 int variant_index(PyObject *variant);
@@ -183,10 +189,16 @@ PyObject *value_of(struct shared *shared, const scaleview_node *nodes, size_t co
 PyObject *encode_value(struct shared *shared, uint32_t type, PyObject *value, const struct limits *limits);
 
 /* registry.c and decoder.c: the two classes. */
-extern PyTypeObject *registry_class;
 int make_registry_class(PyObject *module);
 int make_decoder_class(PyObject *module);
 struct shared *shared_of(PyObject *registry);
+
+/* module.c: the module and its state. */
+PyObject *module_of(PyTypeObject *class);
 int add_class(PyObject *module, PyTypeObject **made, PyType_Spec *spec, const char *name);
+
+static inline struct state *state_of(PyObject *module) {
+    return PyModule_GetState(module);
+}
 
 #endif

@@ -26,12 +26,12 @@ struct held *start_session(const struct call *call, uint64_t memory, Py_ssize_t 
     if (is_torn)
         raise_torn();
     else
-        raise_answer(&answer, call->type, item, memory);
+        raise_answer(shared->state, &answer, call->type, item, memory);
     return NULL;
 }
 
 static int fail_input(const struct input *input, const scaleview_answer *answer) {
-    raise_answer(answer, input->call->type, input->item, input->memory);
+    raise_answer(input->call->shared->state, answer, input->call->type, input->item, input->memory);
     return -1;
 }
 

@@ -1,8 +1,6 @@
 /* The class of registries. */
 #include "native.h"
 
-PyTypeObject *registry_class;
-
 struct registry {
     PyObject_HEAD
     struct shared *shared; /* NULL once it is closed */
@@ -25,7 +23,9 @@ static PyObject *registry_new(PyTypeObject *class, PyObject *args, PyObject *key
     PyObject *kept = bytes_of(data, &bytes, &length);
     if (!kept) return NULL;
     int is_metadata = metadata == Py_None ? length >= 4 && !memcmp(bytes, "meta", 4) : PyObject_IsTrue(metadata);
-    struct shared *shared = is_metadata < 0 ? NULL : open_shared(bytes, length, is_metadata);
+    PyObject *module = is_metadata < 0 ? NULL : module_of(class);
+    struct shared *shared = module ? open_shared(module, bytes, length, is_metadata) : NULL;
+    Py_XDECREF(module);
     Py_DECREF(kept);
     if (!shared) return NULL;
     allocfunc alloc = (allocfunc)PyType_GetSlot(class, Py_tp_alloc);
@@ -96,7 +96,7 @@ static PyObject *decode_at_once(const struct input *input) {
         } else if (code == SCALEVIEW_OK) {
             value = value_of(shared, scratch.nodes, (size_t)answer.length, scratch.bytes);
         } else {
-            raise_answer(&answer, call->type, input->item, input->memory);
+            raise_answer(shared->state, &answer, call->type, input->item, input->memory);
         }
         break;
     }
@@ -197,7 +197,7 @@ static PyObject *registry_decode_json(PyObject *self, PyObject *args, PyObject *
         if (code == SCALEVIEW_OK)
             made = PyUnicode_FromStringAndSize((const char *)scratch.bytes, (Py_ssize_t)answer.length);
         else
-            raise_answer(&answer, call.type, -1, budget_of(&call.limits, length));
+            raise_answer(call.shared->state, &answer, call.type, -1, budget_of(&call.limits, length));
         break;
     }
     give_scratch(call.shared, scratch);
@@ -378,5 +378,5 @@ static PyType_Spec spec = {
 };
 
 int make_registry_class(PyObject *module) {
-    return add_class(module, &registry_class, &spec, "Registry");
+    return add_class(module, &state_of(module)->registry_class, &spec, "Registry");
 }

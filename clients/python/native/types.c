@@ -67,7 +67,7 @@ static PyObject *read_text(const struct text_of *text, scaleview_answer *answer)
     if (answer->code == SCALEVIEW_OK)
         made = PyUnicode_FromStringAndSize((const char *)out, (Py_ssize_t)answer->length);
     else
-        raise_answer(answer, text->type, -1, 0);
+        raise_answer(text->shared->state, answer, text->type, -1, 0);
     free(many);
     if (made && interns && answer->length <= INTERNED) PyUnicode_InternInPlace(&made);
     return made;
@@ -174,7 +174,7 @@ static uint32_t read_shape(struct shared *shared, uint32_t type, scaleview_type_
     enter(shared, false);
     scaleview_type(shared->registry, type, shape, &answer);
     leave(shared);
-    if (answer.code != SCALEVIEW_OK) raise_answer(&answer, type, -1, 0);
+    if (answer.code != SCALEVIEW_OK) raise_answer(shared->state, &answer, type, -1, 0);
     return answer.code;
 }
 

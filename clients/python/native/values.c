@@ -68,7 +68,8 @@ static PyObject *leaf_of(struct reader *reader, const scaleview_node *node) {
     case SCALEVIEW_NODE_COMPACT:
     case SCALEVIEW_NODE_UNSIGNED: return unsigned_of(node->low, node->high);
     case SCALEVIEW_NODE_SIGNED: return signed_of(node->low, node->high);
-    case SCALEVIEW_NODE_COUNT: return PyObject_CallFunction(empties_class, "K", (unsigned long long)node->low);
+    case SCALEVIEW_NODE_COUNT:
+        return PyObject_CallFunction(reader->shared->state->empties_class, "K", (unsigned long long)node->low);
     case SCALEVIEW_NODE_TEXT: return PyUnicode_FromStringAndSize(bytes_at(reader, node), (Py_ssize_t)node->high);
     case SCALEVIEW_NODE_BYTES: return PyBytes_FromStringAndSize(bytes_at(reader, node), (Py_ssize_t)node->high);
     case SCALEVIEW_NODE_WIDE: return wide_of(reader, node);
@@ -112,9 +113,10 @@ static int put_item(struct level *level, PyObject *item) {
     return code;
 }
 
-static PyObject *close_level(struct level *level) {
+static PyObject *close_level(const struct reader *reader, struct level *level) {
     const struct arm *arm = level->arm;
-    return arm ? variant_of(arm->name, level->container, (int)arm->index) : level->container;
+    if (!arm) return level->container;
+    return variant_of(reader->shared->state->variant_class, arm->name, level->container, (int)arm->index);
 }
 
 static int push_level(struct reader *reader, struct level level) {
@@ -140,7 +142,7 @@ static PyObject *put_value(struct reader *reader, PyObject *value) {
     while (value && reader->depth > 0) {
         struct level *top = &reader->levels[reader->depth - 1];
         if (put_item(top, value) < 0 || top->at < top->count) return NULL;
-        value = close_level(top);
+        value = close_level(reader, top);
         reader->depth--;
     }
     return value;
@@ -160,7 +162,7 @@ static PyObject *read_nodes(struct reader *reader, const scaleview_node *nodes, 
                 if (push_level(reader, level) < 0) return NULL;
                 continue;
             }
-            value = close_level(&level);
+            value = close_level(reader, &level);
         }
         value = put_value(reader, value);
         if (value) return value;

@@ -1,8 +1,6 @@
 /* The class of variants' values. */
 #include "native.h"
 
-PyTypeObject *variant_class;
-
 struct variant {
     PyObject_HEAD
     PyObject *name, *fields;
@@ -10,8 +8,8 @@ struct variant {
 };
 
 /* Returns the value of an arm. It takes the reference to the fields. */
-PyObject *variant_of(PyObject *name, PyObject *fields, int index) {
-    struct variant *variant = (struct variant *)PyType_GenericAlloc(variant_class, 0);
+PyObject *variant_of(PyTypeObject *class, PyObject *name, PyObject *fields, int index) {
+    struct variant *variant = (struct variant *)PyType_GenericAlloc(class, 0);
     if (!variant) {
         Py_DECREF(fields);
         return NULL;
@@ -38,7 +36,6 @@ static PyObject *variant_new(PyTypeObject *class, PyObject *args, PyObject *keyw
     static char *names[] = {"name", "fields", "index", NULL};
     PyObject *name, *fields = NULL, *index = Py_None;
     uint64_t number = 0;
-    (void)class;
     if (!PyArg_ParseTupleAndKeywords(args, keywords, "U|OO:Variant", names, &name, &fields, &index)) return NULL;
     if (index != Py_None && read_number("index", index, MOST_INDEX, &number) < 0) return NULL;
     /* Their deallocation bounds the use of stack, and they break cycles. */
@@ -47,7 +44,7 @@ static PyObject *variant_new(PyTypeObject *class, PyObject *args, PyObject *keyw
         return NULL;
     }
     fields = fields ? new_ref(fields) : PyList_New(0);
-    return fields ? variant_of(name, fields, index == Py_None ? NO_INDEX : (int)number) : NULL;
+    return fields ? variant_of(class, name, fields, index == Py_None ? NO_INDEX : (int)number) : NULL;
 }
 
 /* It doesn't visit the class, which the module keeps. */
@@ -77,7 +74,7 @@ static PyObject *variant_repr(PyObject *self) {
 /* The index isn't compared, so that a Variant that a program makes equals a decoded one. */
 
 static PyObject *variant_compare(PyObject *self, PyObject *other, int how) {
-    if (Py_TYPE(other) != variant_class || (how != Py_EQ && how != Py_NE)) return new_ref(Py_NotImplemented);
+    if (Py_TYPE(other) != Py_TYPE(self) || (how != Py_EQ && how != Py_NE)) return new_ref(Py_NotImplemented);
     int is_same = PyObject_RichCompareBool(variant_name(self), variant_name(other), Py_EQ);
     if (is_same > 0) is_same = PyObject_RichCompareBool(variant_fields(self), variant_fields(other), Py_EQ);
     return is_same < 0 ? NULL : PyBool_FromLong(is_same == (how == Py_EQ));
@@ -91,7 +88,7 @@ static PyObject *get_index(PyObject *self, void *unused) {
 
 static PyObject *variant_reduce(PyObject *self, PyObject *unused) {
     (void)unused;
-    return Py_BuildValue("(O(OON))", variant_class, variant_name(self), variant_fields(self), get_index(self, NULL));
+    return Py_BuildValue("(O(OON))", Py_TYPE(self), variant_name(self), variant_fields(self), get_index(self, NULL));
 }
 
 static PyMemberDef members[] = {
@@ -128,9 +125,10 @@ static PyType_Slot slots[] = {
 static PyType_Spec spec = {"scaleview.Variant", sizeof(struct variant), 0, Py_TPFLAGS_DEFAULT | Py_TPFLAGS_HAVE_GC, slots};
 
 int make_variant_class(PyObject *module) {
-    if (add_class(module, &variant_class, &spec, "Variant") < 0) return -1;
+    PyTypeObject **class = &state_of(module)->variant_class;
+    if (add_class(module, class, &spec, "Variant") < 0) return -1;
     PyObject *names = Py_BuildValue("(ss)", "name", "fields");
-    int code = names ? PyObject_SetAttrString((PyObject *)variant_class, "__match_args__", names) : -1;
+    int code = names ? PyObject_SetAttrString((PyObject *)*class, "__match_args__", names) : -1;
     Py_XDECREF(names);
     return code;
 }

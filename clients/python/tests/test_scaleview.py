@@ -1044,6 +1044,70 @@ class Answers(unittest.TestCase):
         self.assertEqual(printed.stdout, "[25185, 25699]\nvalue: Truncated at 1\n1 Truncated\n")
 
 
+class Interpreters(unittest.TestCase):
+    """Other interpreters of a process, each time a process of its own, which a fault would end."""
+
+    BEGIN = """
+import os, sys
+try: import _interpreters as interpreters
+except ImportError: import _xxsubinterpreters as interpreters
+def create(is_isolated):
+    if sys.version_info >= (3, 13): return interpreters.create("isolated" if is_isolated else "legacy")
+    return interpreters.create(isolated=is_isolated) if sys.version_info >= (3, 9) else interpreters.create()
+"""
+    # Each of its nine checks is True.
+    USE = """
+import os, pickle, scaleview
+def is_caught(kind, call, *words, **numbers):
+    try: call(*words, **numbers)
+    except kind as error: return type(error) is kind and type(pickle.loads(pickle.dumps(error))) is kind
+registry = scaleview.Registry(DATA)
+value = registry.decode(0, bytes([1, 0]))
+checks = [
+    type(value) is scaleview.Variant,
+    value == scaleview.Variant("Next", [scaleview.Variant("End")]),
+    type(pickle.loads(pickle.dumps(value))) is scaleview.Variant,
+    registry.encode(0, value) == bytes([1, 0]),
+    type(registry.decode(1, bytes([4]))) is scaleview.Empties,
+    is_caught(scaleview.Refused, registry.decode, 0, b""),
+    is_caught(scaleview.Refused, scaleview.Decoder, registry, 9),
+    is_caught(scaleview.EncodeError, registry.encode, 0, value, depth=0),
+    is_caught(scaleview.OutOfMemory, registry.encode, 0, value, memory=1),
+]
+os.write(1, b"%d of %d, " % (checks.count(True), len(checks)))
+"""
+
+    def run_program(self, program: str) -> str:
+        command = [sys.executable, "-W", "ignore", "-c", self.BEGIN + program]
+        ended = subprocess.run(command, stdout=subprocess.PIPE, stderr=subprocess.PIPE, universal_newlines=True)
+        self.assertEqual((ended.returncode, ended.stderr), (0, ""))
+        return ended.stdout
+
+    def test_each_interpreter_has_its_own_classes(self) -> None:
+        """In the first one, twice in each of two others, and in the first one after the others have ended."""
+        data = make.registry_of(make.variant(("End", 0, ()), ("Next", 1, ((None, 0),))), make.sequence(2), make.members())
+        use = f"DATA = {data!r}\n{self.USE}"
+        program = (
+            f"use = {use!r}\n"
+            "exec(use)\n"
+            "others = [create(False), create(False)]\n"
+            "for other in others * 2: interpreters.run_string(other, use)\n"
+            "for other in others: interpreters.destroy(other)\n"
+            "exec(use)\n"
+        )
+        self.assertEqual(self.run_program(program), "9 of 9, " * 6)
+
+    @unittest.skipIf(sys.version_info < (3, 12), "all interpreters share a lock before 3.12")
+    def test_an_interpreter_with_its_own_lock_does_not_import_it(self) -> None:
+        use = (
+            "import os\n"
+            "try: import scaleview\n"
+            "except ImportError as error: os.write(1, str(error).encode())\n"
+        )
+        message = "module scaleview._native does not support loading in subinterpreters"
+        self.assertEqual(self.run_program(f"interpreters.run_string(create(True), {use!r})\n"), message)
+
+
 class Program(unittest.TestCase):
     """decode.py."""
 
