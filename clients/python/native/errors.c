@@ -130,6 +130,17 @@ uint64_t budget_of(const struct limits *limits, uint64_t length) {
     return limits->has_memory ? limits->memory : MEMORY + MEMORY_OF_A_BYTE * length;
 }
 
+/* Returns a memoryview of a buffer. */
+PyObject *view_of(PyObject *data) {
+    PyObject *view = PyMemoryView_FromObject(data);
+    if (view || !PyErr_ExceptionMatches(PyExc_TypeError)) return view;
+    PyErr_Clear();
+    PyObject *class = PyObject_GetAttrString((PyObject *)Py_TYPE(data), "__name__");
+    if (class) PyErr_Format(PyExc_TypeError, "expected bytes or another object with a buffer, not %U", class);
+    Py_XDECREF(class);
+    return NULL;
+}
+
 /* Returns an object that keeps the bytes of a buffer, and where they are. Bytes stay where they are, also a subclass's,
  * whose own `__len__` isn't asked. Others are copied, since they may change during a call. */
 PyObject *bytes_of(PyObject *data, const uint8_t **bytes, size_t *length) {
@@ -137,15 +148,8 @@ PyObject *bytes_of(PyObject *data, const uint8_t **bytes, size_t *length) {
     if (PyBytes_Check(data)) {
         kept = new_ref(data);
     } else {
-        PyObject *view = PyMemoryView_FromObject(data);
-        if (!view) {
-            if (!PyErr_ExceptionMatches(PyExc_TypeError)) return NULL;
-            PyErr_Clear();
-            PyObject *class = PyObject_GetAttrString((PyObject *)Py_TYPE(data), "__name__");
-            if (class) PyErr_Format(PyExc_TypeError, "expected bytes or another object with a buffer, not %U", class);
-            Py_XDECREF(class);
-            return NULL;
-        }
+        PyObject *view = view_of(data);
+        if (!view) return NULL;
         kept = PyObject_CallMethod(view, "tobytes", NULL);
         Py_DECREF(view);
         if (!kept) return NULL;

@@ -125,7 +125,8 @@ struct call {
 /* The bytes of a value, and what it may take. */
 struct input {
     const struct call *call;
-    const uint8_t *bytes;
+    const uint8_t *bytes; /* NULL if each piece is copied from the view */
+    PyObject *view;
     size_t length;
     Py_ssize_t item; /* its position among several, or -1 */
     uint64_t memory; /* the budget, or 0 for none */
@@ -156,6 +157,7 @@ int read_number(const char *name, PyObject *object, uint64_t most, uint64_t *num
 int read_type(PyObject *registry, PyObject *object, uint32_t *type);
 int read_limits(PyObject *depth, PyObject *limit, PyObject *memory, struct limits *limits);
 uint64_t budget_of(const struct limits *limits, uint64_t length);
+PyObject *view_of(PyObject *data);
 PyObject *bytes_of(PyObject *data, const uint8_t **bytes, size_t *length);
 
 /* types.c: what a registry says about its types. */

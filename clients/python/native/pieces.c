@@ -35,19 +35,33 @@ static int fail_input(const struct input *input, const scaleview_answer *answer)
     return -1;
 }
 
-/* Feeds pieces until the value is complete, and reports how many bytes it takes. A session that no other call knows is fed
- * like a registry that is read. */
-static int feed_pieces(const struct input *input, struct held *held, size_t *used) {
+/* Feeds a piece of the bytes. A session that no other call knows is fed like a registry that is read. */
+static int feed_piece(const struct input *input, struct held *held, size_t from, size_t length, scaleview_answer *answer) {
     struct shared *shared = input->call->shared;
+    const uint8_t *bytes = input->bytes ? input->bytes + from : NULL;
+    PyObject *kept = NULL;
+    if (!bytes) {
+        PyObject *slice = PySequence_GetSlice(input->view, (Py_ssize_t)from, (Py_ssize_t)(from + length));
+        kept = slice ? bytes_of(slice, &bytes, &length) : NULL;
+        Py_XDECREF(slice);
+        if (!kept) return -1;
+    }
+    enter(shared, false);
+    PyThreadState *state = length >= LONG_INPUT ? PyEval_SaveThread() : NULL;
+    scaleview_feed(&held->session, bytes, length, answer);
+    if (state) PyEval_RestoreThread(state);
+    leave(shared);
+    Py_XDECREF(kept);
+    return 0;
+}
+
+/* Feeds pieces until the value is complete, and reports how many bytes it takes. */
+static int feed_pieces(const struct input *input, struct held *held, size_t *used) {
     scaleview_answer answer;
     *used = 0;
     do {
         size_t left = input->length - *used, piece = left < PIECE ? left : PIECE;
-        enter(shared, false);
-        PyThreadState *state = piece >= LONG_INPUT ? PyEval_SaveThread() : NULL;
-        scaleview_feed(&held->session, input->bytes + *used, piece, &answer);
-        if (state) PyEval_RestoreThread(state);
-        leave(shared);
+        if (feed_piece(input, held, *used, piece, &answer) < 0) return -1;
         if (answer.code != SCALEVIEW_OK && answer.code != SCALEVIEW_MORE) return fail_input(input, &answer);
         *used += answer.code == SCALEVIEW_OK ? (size_t)answer.length : piece;
         if (PyErr_CheckSignals() < 0) return -1;

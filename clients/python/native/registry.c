@@ -106,7 +106,7 @@ static PyObject *decode_at_once(const struct input *input) {
 
 /* Decodes one value. */
 static PyObject *decode_one(const struct call *call, PyObject *data, Py_ssize_t item) {
-    struct input input = {call, NULL, 0, item, 0, false};
+    struct input input = {call, NULL, NULL, 0, item, 0, false};
     PyObject *kept = bytes_of(data, &input.bytes, &input.length), *value;
     size_t used;
     if (!kept) return NULL;
@@ -127,12 +127,29 @@ static PyObject *registry_decode(PyObject *self, PyObject *args, PyObject *keywo
     return value;
 }
 
+/* Finds the bytes of a buffer that begins with a value. They are copied in pieces, if they stand in a row, so that what
+ * follows the value costs nothing. */
+static PyObject *front_of(PyObject *data, struct input *input) {
+    if (PyBytes_Check(data)) return bytes_of(data, &input->bytes, &input->length);
+    PyObject *view = view_of(data);
+    if (!view) return NULL;
+    input->view = PyObject_CallMethod(view, "cast", "s", "B");
+    Py_DECREF(view);
+    if (input->view) {
+        input->length = (size_t)PyObject_Size(input->view);
+        return input->view;
+    }
+    if (!PyErr_ExceptionMatches(PyExc_TypeError) && !PyErr_ExceptionMatches(PyExc_ValueError)) return NULL;
+    PyErr_Clear();
+    return bytes_of(data, &input->bytes, &input->length);
+}
+
 static PyObject *registry_decode_prefix(PyObject *self, PyObject *args, PyObject *keywords) {
     struct call call;
-    struct input input = {&call, NULL, 0, -1, 0, true};
+    struct input input = {&call, NULL, NULL, 0, -1, 0, true};
     size_t used;
     if (read_call(self, args, keywords, "OO|$OOO:decode_prefix", decode_names, &call) < 0) return NULL;
-    PyObject *kept = bytes_of(call.value, &input.bytes, &input.length), *value = NULL;
+    PyObject *kept = front_of(call.value, &input), *value = NULL;
     if (kept) {
         input.memory = budget_of(&call.limits, input.length);
         value = decode_pieces(&input, &used);

@@ -5,6 +5,7 @@ from __future__ import annotations
 import array
 import ast
 import copy
+import ctypes
 import doctest
 import inspect
 import mmap
@@ -309,6 +310,23 @@ class Prefixes(unittest.TestCase):
             self.assertEqual(self.registry.decode_prefix(7, data + rest), ([0] * count, 4 + 4 * count))
         with self.assertRaisesRegex(Refused, f"^value: Truncated at {3 + 4 * count}$"):
             self.registry.decode_prefix(7, data[:-1])
+
+    def test_what_follows_a_value_is_not_copied(self) -> None:
+        data = bytearray(64 << 20)
+        start = time.process_time()
+        for _ in range(500):
+            self.assertEqual(self.registry.decode_prefix(3, memoryview(data)), (0, 4))
+        self.assertLess(time.process_time() - start, 1)
+
+    def test_any_buffer_begins_with_a_value(self) -> None:
+        given = bytes.fromhex("0c010203ff00")
+        doubled = bytes(byte for byte in given for _ in range(2))
+        words = (ctypes.c_uint16 * 3).from_buffer_copy(given)
+        for buffer in (memoryview(given).cast("H"), memoryview(doubled)[::2], array.array("H", given), words):
+            self.assertEqual(self.registry.decode_prefix(1, buffer), (b"\1\2\3", 4))
+        count = 50_000
+        data = make.compact(count) + b"\7\0\0\0" * count
+        self.assertEqual(self.registry.decode_prefix(7, bytearray(data + b"\1")), ([7] * count, 4 + 4 * count))
 
     def test_a_wrong_beginning_is_rejected(self) -> None:
         cases: list[tuple[int, bytes, dict[str, int], str]] = [

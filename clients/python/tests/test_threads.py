@@ -208,6 +208,7 @@ class Threads(unittest.TestCase):
     def test_a_forked_process_waits_for_no_thread_of_its_parent(self) -> None:
         registry = Registry(make.registry_of(make.primitive("u16"), make.sequence(0)))
         data = make.compact(1 << 20) + bytes(2 << 20)
+        many = make.compact(1 << 17) + bytes(1 << 18)
         waiting = Decoder(registry, 0)
 
         def read() -> None:
@@ -221,6 +222,7 @@ class Threads(unittest.TestCase):
             """What another thread was writing isn't used, but there may have been no call."""
             nonlocal waiting
             assert registry.decode(0, b"\3\0") == 3
+            assert registry.decode(1, many) == [0] * (1 << 17)
             for call in (lambda: waiting.feed(b"\1\0"), lambda: Decoder(registry, 0)):
                 with contextlib.suppress(RuntimeError):
                     call()
