@@ -64,11 +64,18 @@ static void variant_dealloc(PyObject *self) {
     Py_DECREF(class);
 }
 
+/* Like PyObject_RichCompareBool in variant_compare, PyObject_Repr counts the levels of recursion: Py_EnterRecursiveCall is too
+ * new. The fields come first, since PyUnicode_FromFormat would take much stack on each level. */
 static PyObject *variant_repr(PyObject *self) {
-    PyObject *name = variant_name(self), *fields = variant_fields(self);
+    PyObject *name = variant_name(self), *fields = PyObject_Repr(variant_fields(self)), *made;
     int index = variant_index(self);
-    if (index == NO_INDEX) return PyUnicode_FromFormat("Variant(%R, %R)", name, fields);
-    return PyUnicode_FromFormat("Variant(%R, %R, index=%d)", name, fields, index);
+    if (!fields) return NULL;
+    if (index == NO_INDEX)
+        made = PyUnicode_FromFormat("Variant(%R, %U)", name, fields);
+    else
+        made = PyUnicode_FromFormat("Variant(%R, %U, index=%d)", name, fields, index);
+    Py_DECREF(fields);
+    return made;
 }
 
 /* The index isn't compared, so that a Variant that a program makes equals a decoded one. */

@@ -1062,6 +1062,52 @@ class Answers(unittest.TestCase):
         self.assertEqual(printed.stdout, "[25185, 25699]\nvalue: Truncated at 1\n1 Truncated\n")
 
 
+class Depth(unittest.TestCase):
+    """What Python's recursion does with deep values, each time in a process of its own, which a crash would end."""
+
+    PROGRAM = """
+import copy, pickle, sys, threading
+from scaleview import Variant
+call, depth, stack = eval(sys.argv[1]), int(sys.argv[2]), int(sys.argv[3])
+def chain(fields):
+    value = Variant("End", [], 0)
+    for _ in range(depth): value = Variant("Next", fields(value), 1)
+    return value
+def run():
+    for fields in (lambda value: [value], lambda value: {"rest": value}, lambda value: (value,)):
+        try: print(call(chain(fields), chain(fields)), end=" ")
+        except RecursionError: print("RecursionError", end=" ")
+threading.stack_size(stack)
+thread = threading.Thread(target=run)
+thread.start()
+thread.join()
+"""
+    REPR = "lambda value, other: repr(value).count('Variant(') == depth + 1"
+    EQUALS = "lambda value, other: value == other and not value != other"
+    COPY = "lambda value, other: copy.deepcopy(value).name == 'Next'"
+    PICKLE = "lambda value, other: pickle.loads(pickle.dumps(value)).name == 'Next'"
+
+    def outcomes(self, call: str, depth: int, stack: int) -> list[str]:
+        command = [sys.executable, "-c", self.PROGRAM, call, str(depth), str(stack)]
+        ended = subprocess.run(command, stdout=subprocess.PIPE, universal_newlines=True)
+        self.assertEqual(ended.returncode, 0)
+        return ended.stdout.split()
+
+    def test_values_of_the_default_depth_are_used_like_others(self) -> None:
+        for call, stack in ((self.REPR, 32), (self.EQUALS, 32), (self.COPY, 512), (self.PICKLE, 512)):
+            with self.subTest(call):
+                self.assertEqual(self.outcomes(call, scaleview.DEPTH, stack << 10), ["True"] * 3)
+
+    def test_the_deepest_values_raise_recursion_errors(self) -> None:
+        """Or are used like others, if the version of Python has a greater limit. None ends the process."""
+        for call in (self.REPR, self.EQUALS, self.COPY, self.PICKLE):
+            with self.subTest(call):
+                outcomes = self.outcomes(call, 1024, 0)
+                self.assertEqual(len(outcomes), 3)
+                allowed = {"RecursionError"} if sys.version_info < (3, 12) else {"RecursionError", "True"}
+                self.assertLessEqual(set(outcomes), allowed)
+
+
 class Interpreters(unittest.TestCase):
     """Other interpreters of a process, each time a process of its own, which a fault would end."""
 
