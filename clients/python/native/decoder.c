@@ -12,47 +12,27 @@ struct decoder {
     uint64_t memory; /* the budget, or 0 for none */
 };
 
-static PyTypeObject *decoder_class;
-
-static const char torn[] = "the process was forked during a call on a decoder of this registry: open another registry";
-
 static PyObject *decoder_new(PyTypeObject *class, PyObject *args, PyObject *keywords) {
     static char *names[] = {"registry", "type", "depth", "limit", "memory", NULL};
     PyObject *registry, *type_object, *depth = NULL, *limit = NULL, *memory = NULL;
-    struct limits limits;
-    uint32_t type;
-    scaleview_answer answer;
-    if (!PyArg_ParseTupleAndKeywords(args, keywords, "O!O|$OOO:Decoder", names, registry_class, &registry, &type_object,
-                                     &depth, &limit, &memory))
-        return NULL;
-    if (read_type(registry, type_object, &type) < 0 || read_limits(depth, limit, memory, &limits) < 0) return NULL;
+    struct call call = {0};
+    PyObject *module = module_of(class);
+    if (!module) return NULL;
+    int is_read = PyArg_ParseTupleAndKeywords(args, keywords, "O!O|$OOO:Decoder", names, state_of(module)->registry_class,
+                                              &registry, &type_object, &depth, &limit, &memory);
+    Py_DECREF(module);
+    if (!is_read) return NULL;
+    if (read_type(registry, type_object, &call.type) < 0) return NULL;
+    if (read_limits(depth, limit, memory, &call.limits) < 0) return NULL;
     struct decoder *self = (struct decoder *)PyType_GenericAlloc(class, 0);
     if (!self) return NULL;
-    self->type = type;
-    self->depth = limits.depth;
-    self->memory = limits.memory = budget_of(&limits, limits.limit);
-    self->shared = shared_of(registry);
-    struct held *held = self->shared ? calloc(1, sizeof *held) : NULL;
-    if (!held) {
-        if (self->shared) PyErr_NoMemory();
-        Py_DECREF(self);
-        return NULL;
-    }
-    enter(self->shared, true);
-    bool is_torn = self->shared->is_torn;
-    if (!is_torn)
-        scaleview_start(self->shared->registry, type, limits.depth, limits.limit, limits.memory, &held->session, &answer);
-    leave(self->shared);
-    if (!is_torn && answer.code == SCALEVIEW_OK) {
-        self->held = held;
-        return (PyObject *)self;
-    }
-    free(held);
+    self->type = call.type;
+    self->depth = call.limits.depth;
+    self->memory = budget_of(&call.limits, call.limits.limit);
+    self->shared = call.shared = shared_of(registry);
+    self->held = call.shared ? start_session(&call, self->memory, -1) : NULL;
+    if (self->held) return (PyObject *)self;
     Py_DECREF(self);
-    if (is_torn)
-        PyErr_SetString(PyExc_RuntimeError, torn);
-    else
-        raise_answer(&answer, type, -1, limits.memory);
     return NULL;
 }
 
@@ -83,7 +63,7 @@ static scaleview_session *begin(struct decoder *self) {
     if (self->held && !is_torn) return &self->held->session;
     leave(self->shared);
     if (is_torn)
-        PyErr_SetString(PyExc_RuntimeError, torn);
+        raise_torn();
     else
         PyErr_SetString(PyExc_ValueError, "the decoder is closed");
     return NULL;
@@ -106,7 +86,7 @@ static PyObject *decoder_feed(PyObject *object, PyObject *piece) {
     if (!session) return NULL;
     if (answer.code == SCALEVIEW_MORE) return new_ref(Py_None);
     if (answer.code == SCALEVIEW_OK) return PyLong_FromUnsignedLongLong(answer.length);
-    raise_answer(&answer, self->type, -1, self->memory);
+    raise_answer(self->shared->state, &answer, self->type, -1, self->memory);
     return NULL;
 }
 
@@ -142,7 +122,7 @@ static PyObject *decoder_finish(PyObject *object, PyObject *unused) {
         if (answer.code == SCALEVIEW_OK)
             value = value_of(self->shared, scratch.nodes, (size_t)answer.length, scratch.bytes);
         else
-            raise_answer(&answer, self->type, -1, self->memory);
+            raise_answer(self->shared->state, &answer, self->type, -1, self->memory);
         break;
     }
     give_scratch(self->shared, scratch);
@@ -184,7 +164,7 @@ static PyObject *decoder_finish_json(PyObject *object, PyObject *unused) {
         if (code == SCALEVIEW_OK)
             made = PyUnicode_FromStringAndSize((const char *)scratch.bytes, (Py_ssize_t)answer.length);
         else
-            raise_answer(&answer, self->type, -1, self->memory);
+            raise_answer(self->shared->state, &answer, self->type, -1, self->memory);
         break;
     }
     give_scratch(self->shared, scratch);
@@ -292,5 +272,5 @@ static PyType_Slot slots[] = {
 static PyType_Spec spec = {"scaleview.Decoder", sizeof(struct decoder), 0, Py_TPFLAGS_DEFAULT, slots};
 
 int make_decoder_class(PyObject *module) {
-    return add_class(module, &decoder_class, &spec, "Decoder");
+    return add_class(module, &state_of(module)->decoder_class, &spec, "Decoder");
 }

@@ -75,7 +75,7 @@ static int expected(const struct writer *writer, const char *what, PyObject *val
 static int check_budget(const struct writer *writer, size_t nodes, size_t bytes) {
     uint64_t least = LEAST_MEMORY_OF_A_NODE * ((uint64_t)writer->count + nodes) + writer->length + bytes;
     if (writer->memory == 0 || least <= writer->memory) return 0;
-    raise_out_of_memory(writer->memory);
+    raise_out_of_memory(writer->shared->state, writer->memory);
     return -1;
 }
 
@@ -265,7 +265,7 @@ static PyObject *items_of(const struct writer *writer, PyObject *value, Py_ssize
 /* A sequence of elements that take no bytes: an Empties, or so many None. */
 static int put_count(struct writer *writer, uint32_t type, PyObject *value) {
     uint64_t count = 0;
-    int is_empties = PyObject_IsInstance(value, empties_class);
+    int is_empties = PyObject_IsInstance(value, writer->shared->state->empties_class);
     if (is_empties < 0) return -1;
     if (is_empties) {
         PyObject *number = PyObject_GetAttrString(value, "_count");
@@ -384,11 +384,26 @@ static int find_arm(const struct writer *writer, const struct type_info *info, P
     return is_found < 0 ? -1 : 0;
 }
 
+/* Finds the arm of that index, which has to have that name. */
+static int find_arm_by_index(const struct writer *writer, const struct type_info *info, PyObject *name, int index,
+                             uint32_t *arm) {
+    uint32_t found = info->arms_by_index[index];
+    if (found == NO_ARM) return fail(writer, PyExc_ValueError, "there is no arm %R of index %d", name, index);
+    int is_same = PyObject_RichCompareBool(info->arms[found].name, name, Py_EQ);
+    if (is_same < 0) return -1;
+    if (is_same == 0)
+        return fail(writer, PyExc_ValueError, "the arm of index %d is %R, not %R", index, info->arms[found].name, name);
+    *arm = found;
+    return 0;
+}
+
 static int put_variant(struct writer *writer, uint32_t type, const struct type_info *info, PyObject *value) {
     PyObject *name, *fields;
-    if (Py_TYPE(value) == variant_class) {
+    int index = NO_INDEX;
+    if (Py_TYPE(value) == writer->shared->state->variant_class) {
         name = variant_name(value);
         fields = variant_fields(value);
+        index = variant_index(value);
     } else if (PyTuple_Check(value) && PyTuple_Size(value) == 2 && PyUnicode_Check(PyTuple_GetItem(value, 0))) {
         name = PyTuple_GetItem(value, 0);
         fields = PyTuple_GetItem(value, 1);
@@ -396,7 +411,9 @@ static int put_variant(struct writer *writer, uint32_t type, const struct type_i
         return expected(writer, "a Variant or a pair of a name and fields", value);
     }
     uint32_t arm = 0;
-    if (find_arm(writer, info, name, fields, &arm) < 0) return -1;
+    int is_found = index == NO_INDEX ? find_arm(writer, info, name, fields, &arm)
+                                     : find_arm_by_index(writer, info, name, index, &arm);
+    if (is_found < 0) return -1;
     const struct arm *of_arm = &info->arms[arm];
     scaleview_node node = {SCALEVIEW_NODE_ARM, type, 0, arm, 0, 0};
     writer->arm = of_arm->name;
@@ -495,7 +512,7 @@ static void raise_rejected(struct writer *writer, const scaleview_answer *answer
         if (push_level(writer, level) < 0) return;
     }
     PyObject *path = path_here(writer);
-    if (path) raise_rejected_node(answer, path);
+    if (path) raise_rejected_node(writer->shared->state, answer, path);
     Py_XDECREF(path);
 }
 
@@ -522,7 +539,7 @@ static PyObject *bytes_of_nodes(struct writer *writer, uint32_t type, uint16_t d
         } else if (code > 400) {
             raise_rejected(writer, &answer);
         } else {
-            raise_answer(&answer, type, -1, writer->memory);
+            raise_answer(writer->shared->state, &answer, type, -1, writer->memory);
         }
         break;
     }

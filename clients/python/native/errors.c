@@ -1,17 +1,16 @@
 /* Exceptions, numbers and buffers. */
 #include "native.h"
 
-PyObject *refused_class, *encode_error_class, *out_of_memory_class, *empties_class;
-
-int import_classes(void) {
+int import_classes(struct state *state) {
     PyObject *module = PyImport_ImportModule("scaleview._base");
     if (!module) return -1;
-    refused_class = PyObject_GetAttrString(module, "Refused");
-    encode_error_class = PyObject_GetAttrString(module, "EncodeError");
-    out_of_memory_class = PyObject_GetAttrString(module, "OutOfMemory");
-    empties_class = PyObject_GetAttrString(module, "Empties");
+    state->refused_class = PyObject_GetAttrString(module, "Refused");
+    state->encode_error_class = PyObject_GetAttrString(module, "EncodeError");
+    state->out_of_memory_class = PyObject_GetAttrString(module, "OutOfMemory");
+    state->empties_class = PyObject_GetAttrString(module, "Empties");
     Py_DECREF(module);
-    return refused_class && encode_error_class && out_of_memory_class && empties_class ? 0 : -1;
+    bool has_errors = state->refused_class && state->encode_error_class && state->out_of_memory_class;
+    return has_errors && state->empties_class ? 0 : -1;
 }
 
 PyObject *reason_of(uint32_t code) {
@@ -40,34 +39,36 @@ static const char *part_of(uint32_t code) {
 }
 
 /* Raises that a call with this budget, or none if it is 0, got no memory. The library doesn't say which of the two it was. */
-void raise_out_of_memory(uint64_t memory) {
+void raise_out_of_memory(const struct state *state, uint64_t memory) {
     if (memory == 0)
-        PyErr_SetString(out_of_memory_class, "an allocation failed");
+        PyErr_SetString(state->out_of_memory_class, "an allocation failed");
     else
-        PyErr_Format(out_of_memory_class, "the budget of %llu bytes of memory is reached, or an allocation failed",
-                     (unsigned long long)memory);
+        PyErr_Format(state->out_of_memory_class,
+                     "the budget of %llu bytes of memory is reached, or an allocation failed", (unsigned long long)memory);
 }
 
 /* Raises what a call with this budget of memory answered: on this type, and on this item of several if it isn't negative. */
-void raise_answer(const scaleview_answer *answer, uint32_t type, Py_ssize_t item, uint64_t memory) {
+void raise_answer(const struct state *state, const scaleview_answer *answer, uint32_t type, Py_ssize_t item,
+                  uint64_t memory) {
     uint32_t code = answer->code;
     if (code == SCALEVIEW_MEMORY) {
-        raise_out_of_memory(memory);
+        raise_out_of_memory(state, memory);
         return;
     }
     const char *part = part_of(code);
     bool has_types = code == SCALEVIEW_REGISTRY_UNKNOWN_REFERENCE, is_unknown = code == SCALEVIEW_UNKNOWN_TYPE;
     bool has_place = !has_types && (code < 200 || code >= 300);
-    raise_new(refused_class, Py_BuildValue("(INsNNNN)", code, reason_of(code), part, number_or_none(has_place, answer->at),
-                                           number_or_none(has_types, answer->from),
-                                           number_or_none(has_types || is_unknown, is_unknown ? type : answer->at),
-                                           number_or_none(item >= 0, (unsigned long long)item)));
+    raise_new(state->refused_class,
+              Py_BuildValue("(INsNNNN)", code, reason_of(code), part, number_or_none(has_place, answer->at),
+                            number_or_none(has_types, answer->from),
+                            number_or_none(has_types || is_unknown, is_unknown ? type : answer->at),
+                            number_or_none(item >= 0, (unsigned long long)item)));
 }
 
 /* Raises the refusal of a node, which has this path. */
-void raise_rejected_node(const scaleview_answer *answer, PyObject *path) {
-    raise_new(encode_error_class, Py_BuildValue("(INON)", answer->code, reason_of(answer->code), path,
-                                                PyLong_FromUnsignedLongLong(answer->at)));
+void raise_rejected_node(const struct state *state, const scaleview_answer *answer, PyObject *path) {
+    raise_new(state->encode_error_class, Py_BuildValue("(INON)", answer->code, reason_of(answer->code), path,
+                                                       PyLong_FromUnsignedLongLong(answer->at)));
 }
 
 /* Reads a number from 0 to the greatest. */
@@ -129,6 +130,17 @@ uint64_t budget_of(const struct limits *limits, uint64_t length) {
     return limits->has_memory ? limits->memory : MEMORY + MEMORY_OF_A_BYTE * length;
 }
 
+/* Returns a memoryview of a buffer. */
+PyObject *view_of(PyObject *data) {
+    PyObject *view = PyMemoryView_FromObject(data);
+    if (view || !PyErr_ExceptionMatches(PyExc_TypeError)) return view;
+    PyErr_Clear();
+    PyObject *class = PyObject_GetAttrString((PyObject *)Py_TYPE(data), "__name__");
+    if (class) PyErr_Format(PyExc_TypeError, "expected bytes or another object with a buffer, not %U", class);
+    Py_XDECREF(class);
+    return NULL;
+}
+
 /* Returns an object that keeps the bytes of a buffer, and where they are. Bytes stay where they are, also a subclass's,
  * whose own `__len__` isn't asked. Others are copied, since they may change during a call. */
 PyObject *bytes_of(PyObject *data, const uint8_t **bytes, size_t *length) {
@@ -136,15 +148,8 @@ PyObject *bytes_of(PyObject *data, const uint8_t **bytes, size_t *length) {
     if (PyBytes_Check(data)) {
         kept = new_ref(data);
     } else {
-        PyObject *view = PyMemoryView_FromObject(data);
-        if (!view) {
-            if (!PyErr_ExceptionMatches(PyExc_TypeError)) return NULL;
-            PyErr_Clear();
-            PyObject *class = PyObject_GetAttrString((PyObject *)Py_TYPE(data), "__name__");
-            if (class) PyErr_Format(PyExc_TypeError, "expected bytes or another object with a buffer, not %U", class);
-            Py_XDECREF(class);
-            return NULL;
-        }
+        PyObject *view = view_of(data);
+        if (!view) return NULL;
         kept = PyObject_CallMethod(view, "tobytes", NULL);
         Py_DECREF(view);
         if (!kept) return NULL;

@@ -1,10 +1,21 @@
 /* The extension module scaleview._native: the proved decoder, with Python's objects in place of nodes. */
 #include "native.h"
 
-/* Makes a class, and adds it to the module. The static pointer keeps it. */
+static struct PyModuleDef definition;
+
+/* Returns the module of a class, or of the one that it derives from: PyType_GetModule is too new. */
+PyObject *module_of(PyTypeObject *class) {
+    PyObject *module = PyObject_GetAttrString((PyObject *)class, "__native__");
+    if (!module || (PyModule_Check(module) && PyModule_GetDef(module) == &definition)) return module;
+    Py_DECREF(module);
+    PyErr_SetString(PyExc_TypeError, "__native__ has to be the module scaleview._native");
+    return NULL;
+}
+
+/* Makes a class, and adds it to the module and its state. */
 int add_class(PyObject *module, PyTypeObject **made, PyType_Spec *spec, const char *name) {
     *made = (PyTypeObject *)PyType_FromSpec(spec);
-    if (!*made) return -1;
+    if (!*made || PyObject_SetAttrString((PyObject *)*made, "__native__", module) < 0) return -1;
     Py_INCREF(*made);
     return PyModule_AddObject(module, name, (PyObject *)*made);
 }
@@ -28,29 +39,63 @@ static PyMethodDef functions[] = {
     {0},
 };
 
+static int check_version(void) {
+    uint32_t version = scaleview_version();
+    if (version == SCALEVIEW_VERSION) return 0;
+    PyErr_Format(PyExc_ImportError,
+                 "scaleview was built with the header %u and the library %u: run `bash clients/build`, and install it "
+                 "again", SCALEVIEW_VERSION, version);
+    return -1;
+}
+
+static int execute(PyObject *module) {
+    if (check_version() < 0 || choose_interning() < 0 || import_classes(state_of(module)) < 0) return -1;
+    if (make_variant_class(module) < 0 || make_registry_class(module) < 0 || make_decoder_class(module) < 0) return -1;
+    if (PyModule_AddIntConstant(module, "DEPTH", DEPTH) < 0 || PyModule_AddIntConstant(module, "LIMIT", LIMIT) < 0) return -1;
+    return PyModule_AddIntConstant(module, "LIBRARY_VERSION", SCALEVIEW_VERSION);
+}
+
+/* Python 3.8 visits modules before they have a state. */
+static int traverse(PyObject *module, visitproc visit, void *arg) {
+    const struct state *state = state_of(module);
+    if (!state) return 0;
+    Py_VISIT(state->refused_class);
+    Py_VISIT(state->encode_error_class);
+    Py_VISIT(state->out_of_memory_class);
+    Py_VISIT(state->empties_class);
+    Py_VISIT(state->variant_class);
+    Py_VISIT(state->registry_class);
+    Py_VISIT(state->decoder_class);
+    return 0;
+}
+
+static int clear(PyObject *module) {
+    struct state *state = state_of(module);
+    if (!state) return 0;
+    Py_CLEAR(state->refused_class);
+    Py_CLEAR(state->encode_error_class);
+    Py_CLEAR(state->out_of_memory_class);
+    Py_CLEAR(state->empties_class);
+    Py_CLEAR(state->variant_class);
+    Py_CLEAR(state->registry_class);
+    Py_CLEAR(state->decoder_class);
+    return 0;
+}
+
+static void free_state(void *module) {
+    clear(module);
+}
+
+static PyModuleDef_Slot module_slots[] = {{Py_mod_exec, execute}, {0}};
+
 static struct PyModuleDef definition = {
-    PyModuleDef_HEAD_INIT, "scaleview._native", "The part of the package that is written in C.", -1, functions, NULL, NULL,
-    NULL, NULL,
+    PyModuleDef_HEAD_INIT, "scaleview._native", "The part of the package that is written in C.", sizeof(struct state),
+    functions, module_slots, traverse, clear, free_state,
 };
 
 /* The headers of 3.8 don't export it themselves. */
 __attribute__((visibility("default"))) PyMODINIT_FUNC PyInit__native(void);
 
 PyMODINIT_FUNC PyInit__native(void) {
-    uint32_t version = scaleview_version();
-    if (version != SCALEVIEW_VERSION) {
-        PyErr_Format(PyExc_ImportError,
-                     "scaleview was built with the header %u and the library %u: run `bash clients/build`, and install it "
-                     "again", SCALEVIEW_VERSION, version);
-        return NULL;
-    }
-    PyObject *module = PyModule_Create(&definition);
-    if (module && choose_interning() == 0 && import_classes() == 0 && make_variant_class(module) == 0 &&
-        make_registry_class(module) == 0 && make_decoder_class(module) == 0 &&
-        PyModule_AddIntConstant(module, "DEPTH", DEPTH) == 0 &&
-        PyModule_AddIntConstant(module, "LIMIT", LIMIT) == 0 &&
-        PyModule_AddIntConstant(module, "LIBRARY_VERSION", (long)version) == 0)
-        return module;
-    Py_XDECREF(module);
-    return NULL;
+    return PyModuleDef_Init(&definition);
 }

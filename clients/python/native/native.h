@@ -1,5 +1,5 @@
 /* What the parts of the extension module share. All functions need the GIL, which also guards all of this data: a module
- * for the limited API isn't loaded by a Python without one. */
+ * for the limited API isn't loaded by a Python without one. Interpreters that share a GIL have a module each. */
 #ifndef NATIVE_H
 #define NATIVE_H
 #define PY_SSIZE_T_CLEAN
@@ -20,7 +20,16 @@ enum {
     MEMORY = 1 << 26,       /* the budget of memory where no other is named, for an empty input */
     MEMORY_OF_A_BYTE = 64,  /* what each byte of the input adds to it */
     LONG_INPUT = 1 << 12,   /* calls on this many bytes release the GIL */
+    LONG_VALUE = 1 << 18,   /* values of this many bytes are decoded in pieces */
     KEPT_SCRATCH = 1 << 20, /* scratch memory above this many bytes is freed after a call */
+    MOST_INDEX = 255,       /* the greatest index of an arm */
+    NO_INDEX = -1,          /* a Variant that was made without an index */
+};
+
+/* The state of a module: the classes of its interpreter. */
+struct state {
+    PyObject *refused_class, *encode_error_class, *out_of_memory_class, *empties_class;
+    PyTypeObject *variant_class, *registry_class, *decoder_class;
 };
 
 /* The fields of a composite or of an arm, or the members of a tuple. */
@@ -45,10 +54,12 @@ struct type_info {
     struct fields fields;
     struct arm *arms;
     PyObject *arm_positions; /* a dict by name of the first arms that aren't shadowed */
+    uint32_t *arms_by_index; /* of a variant, the position of the first arm of each index, or NO_ARM */
     uint32_t target;         /* the primitive that a compact wraps, or NO_TARGET */
 };
 
 #define NO_TARGET UINT32_MAX
+#define NO_ARM UINT32_MAX
 
 /* A thread that waits for its turn on a registry. */
 struct waiter {
@@ -74,6 +85,8 @@ struct scratch {
 /* An open registry. The Registry object, each Decoder and each call under way hold a reference. */
 struct shared {
     scaleview_registry registry;
+    PyObject *module; /* which keeps the state */
+    const struct state *state;
     size_t references;
     uint32_t count, version;
     uint64_t end;
@@ -101,13 +114,33 @@ struct limits {
     uint64_t limit, memory;
 };
 
+/* The arguments of a call on a registry. */
+struct call {
+    struct shared *shared;
+    PyObject *value; /* borrowed */
+    uint32_t type;
+    struct limits limits;
+};
+
+/* The bytes of a value, and what it may take. */
+struct input {
+    const struct call *call;
+    const uint8_t *bytes; /* NULL if each piece is copied from the view */
+    PyObject *view;
+    size_t length;
+    Py_ssize_t item; /* its position among several, or -1 */
+    uint64_t memory; /* the budget, or 0 for none */
+    bool is_front;   /* other bytes may follow the value */
+};
+
 /* shared.c: registries, turns and memory. */
-struct shared *open_shared(const uint8_t *bytes, size_t length, bool metadata);
+struct shared *open_shared(PyObject *module, const uint8_t *bytes, size_t length, bool metadata);
 struct shared *retain(struct shared *shared);
 void release(struct shared *shared);
 void enter(struct shared *shared, bool writes);
 void leave(struct shared *shared);
 void note_fork(void);
+bool is_torn(struct shared *shared);
 void drop(struct shared *shared, struct held *held);
 struct scratch take_scratch(struct shared *shared);
 void give_scratch(struct shared *shared, struct scratch scratch);
@@ -115,16 +148,16 @@ int make_room(struct scratch *scratch, size_t nodes, size_t bytes);
 uint32_t with_stack(uint16_t depth, uint32_t (*call)(void *), void *context);
 
 /* errors.c: exceptions, numbers and buffers. */
-extern PyObject *refused_class, *encode_error_class, *out_of_memory_class, *empties_class;
-int import_classes(void);
-void raise_answer(const scaleview_answer *answer, uint32_t type, Py_ssize_t item, uint64_t memory);
-void raise_rejected_node(const scaleview_answer *answer, PyObject *path);
-void raise_out_of_memory(uint64_t memory);
+int import_classes(struct state *state);
+void raise_answer(const struct state *state, const scaleview_answer *answer, uint32_t type, Py_ssize_t item, uint64_t memory);
+void raise_rejected_node(const struct state *state, const scaleview_answer *answer, PyObject *path);
+void raise_out_of_memory(const struct state *state, uint64_t memory);
 PyObject *reason_of(uint32_t code);
 int read_number(const char *name, PyObject *object, uint64_t most, uint64_t *number);
 int read_type(PyObject *registry, PyObject *object, uint32_t *type);
 int read_limits(PyObject *depth, PyObject *limit, PyObject *memory, struct limits *limits);
 uint64_t budget_of(const struct limits *limits, uint64_t length);
+PyObject *view_of(PyObject *data);
 PyObject *bytes_of(PyObject *data, const uint8_t **bytes, size_t *length);
 
 /* types.c: what a registry says about its types. */
@@ -140,11 +173,16 @@ PyObject *line_of(struct shared *shared, uint32_t type);
 PyObject *find_path(struct shared *shared, uint32_t from, PyObject *path);
 
 /* variant.c: the class of variants' values. */
-extern PyTypeObject *variant_class;
 int make_variant_class(PyObject *module);
-PyObject *variant_of(PyObject *name, PyObject *fields);
+PyObject *variant_of(PyTypeObject *class, PyObject *name, PyObject *fields, int index);
 PyObject *variant_name(PyObject *variant);
 PyObject *variant_fields(PyObject *variant);
+int variant_index(PyObject *variant);
+
+/* pieces.c: sessions, and values decoded in pieces. */
+void raise_torn(void);
+struct held *start_session(const struct call *call, uint64_t memory, Py_ssize_t item);
+PyObject *decode_pieces(const struct input *input, size_t *used);
 
 /* values.c: values of nodes. */
 PyObject *value_of(struct shared *shared, const scaleview_node *nodes, size_t count, const uint8_t *pool);
@@ -153,10 +191,16 @@ PyObject *value_of(struct shared *shared, const scaleview_node *nodes, size_t co
 PyObject *encode_value(struct shared *shared, uint32_t type, PyObject *value, const struct limits *limits);
 
 /* registry.c and decoder.c: the two classes. */
-extern PyTypeObject *registry_class;
 int make_registry_class(PyObject *module);
 int make_decoder_class(PyObject *module);
 struct shared *shared_of(PyObject *registry);
+
+/* module.c: the module and its state. */
+PyObject *module_of(PyTypeObject *class);
 int add_class(PyObject *module, PyTypeObject **made, PyType_Spec *spec, const char *name);
+
+static inline struct state *state_of(PyObject *module) {
+    return PyModule_GetState(module);
+}
 
 #endif

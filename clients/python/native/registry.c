@@ -1,8 +1,6 @@
 /* The class of registries. */
 #include "native.h"
 
-PyTypeObject *registry_class;
-
 struct registry {
     PyObject_HEAD
     struct shared *shared; /* NULL once it is closed */
@@ -25,7 +23,9 @@ static PyObject *registry_new(PyTypeObject *class, PyObject *args, PyObject *key
     PyObject *kept = bytes_of(data, &bytes, &length);
     if (!kept) return NULL;
     int is_metadata = metadata == Py_None ? length >= 4 && !memcmp(bytes, "meta", 4) : PyObject_IsTrue(metadata);
-    struct shared *shared = is_metadata < 0 ? NULL : open_shared(bytes, length, is_metadata);
+    PyObject *module = is_metadata < 0 ? NULL : module_of(class);
+    struct shared *shared = module ? open_shared(module, bytes, length, is_metadata) : NULL;
+    Py_XDECREF(module);
     Py_DECREF(kept);
     if (!shared) return NULL;
     allocfunc alloc = (allocfunc)PyType_GetSlot(class, Py_tp_alloc);
@@ -54,14 +54,6 @@ static void registry_dealloc(PyObject *self) {
     Py_DECREF(class);
 }
 
-/* The arguments of a call on a registry. */
-struct call {
-    struct shared *shared;
-    PyObject *value; /* borrowed */
-    uint32_t type;
-    struct limits limits;
-};
-
 /* Reads the arguments, and takes a reference to the registry, which the caller releases. */
 static int read_call(PyObject *self, PyObject *args, PyObject *keywords, const char *format, char **names,
                      struct call *call) {
@@ -81,24 +73,21 @@ static int read_call(PyObject *self, PyObject *args, PyObject *keywords, const c
 
 static char *decode_names[] = {"type", "data", "depth", "limit", "memory", NULL};
 
-/* Decodes one value. */
-static PyObject *decode_one(const struct call *call, PyObject *data, Py_ssize_t item) {
+/* Decodes a value by one call of the library, during which no signal is handled. */
+static PyObject *decode_at_once(const struct input *input) {
+    const struct call *call = input->call;
     struct shared *shared = call->shared;
-    const uint8_t *bytes;
-    size_t length;
-    PyObject *kept = bytes_of(data, &bytes, &length), *value = NULL;
-    if (!kept) return NULL;
-    uint64_t memory = budget_of(&call->limits, length);
+    size_t length = input->length, nodes = length / 4 + 32;
     struct scratch scratch = take_scratch(shared);
-    size_t nodes = length / 4 + 32;
+    PyObject *value = NULL;
     for (;;) {
         scaleview_answer answer;
         if (make_room(&scratch, nodes, length + 1) < 0) break;
         enter(shared, false);
         PyThreadState *state = length >= LONG_INPUT ? PyEval_SaveThread() : NULL;
         uint32_t code = scaleview_decode_nodes(shared->registry, call->type, call->limits.depth, call->limits.limit,
-                                               memory, bytes, length, scratch.nodes, scratch.node_room,
-                                               scratch.bytes, scratch.byte_room, &answer);
+                                               input->memory, input->bytes, length, scratch.nodes,
+                                               scratch.node_room, scratch.bytes, scratch.byte_room, &answer);
         if (state) PyEval_RestoreThread(state);
         leave(shared);
         if (code == SCALEVIEW_NO_ROOM) {
@@ -107,11 +96,25 @@ static PyObject *decode_one(const struct call *call, PyObject *data, Py_ssize_t 
         } else if (code == SCALEVIEW_OK) {
             value = value_of(shared, scratch.nodes, (size_t)answer.length, scratch.bytes);
         } else {
-            raise_answer(&answer, call->type, item, memory);
+            raise_answer(shared->state, &answer, call->type, input->item, input->memory);
         }
         break;
     }
     give_scratch(shared, scratch);
+    return value;
+}
+
+/* Decodes one value. */
+static PyObject *decode_one(const struct call *call, PyObject *data, Py_ssize_t item) {
+    struct input input = {call, NULL, NULL, 0, item, 0, false};
+    PyObject *kept = bytes_of(data, &input.bytes, &input.length), *value;
+    size_t used;
+    if (!kept) return NULL;
+    input.memory = budget_of(&call->limits, input.length);
+    if (input.length >= LONG_VALUE && !is_torn(call->shared))
+        value = decode_pieces(&input, &used);
+    else
+        value = decode_at_once(&input);
     Py_DECREF(kept);
     return value;
 }
@@ -124,6 +127,38 @@ static PyObject *registry_decode(PyObject *self, PyObject *args, PyObject *keywo
     return value;
 }
 
+/* Finds the bytes of a buffer that begins with a value. They are copied in pieces, if they stand in a row, so that what
+ * follows the value costs nothing. */
+static PyObject *front_of(PyObject *data, struct input *input) {
+    if (PyBytes_Check(data)) return bytes_of(data, &input->bytes, &input->length);
+    PyObject *view = view_of(data);
+    if (!view) return NULL;
+    input->view = PyObject_CallMethod(view, "cast", "s", "B");
+    Py_DECREF(view);
+    if (input->view) {
+        input->length = (size_t)PyObject_Size(input->view);
+        return input->view;
+    }
+    if (!PyErr_ExceptionMatches(PyExc_TypeError) && !PyErr_ExceptionMatches(PyExc_ValueError)) return NULL;
+    PyErr_Clear();
+    return bytes_of(data, &input->bytes, &input->length);
+}
+
+static PyObject *registry_decode_prefix(PyObject *self, PyObject *args, PyObject *keywords) {
+    struct call call;
+    struct input input = {&call, NULL, NULL, 0, -1, 0, true};
+    size_t used;
+    if (read_call(self, args, keywords, "OO|$OOO:decode_prefix", decode_names, &call) < 0) return NULL;
+    PyObject *kept = front_of(call.value, &input), *value = NULL;
+    if (kept) {
+        input.memory = budget_of(&call.limits, input.length);
+        value = decode_pieces(&input, &used);
+        Py_DECREF(kept);
+    }
+    release(call.shared);
+    return value ? Py_BuildValue("(NK)", value, (unsigned long long)used) : NULL;
+}
+
 static PyObject *registry_decode_many(PyObject *self, PyObject *args, PyObject *keywords) {
     static char *names[] = {"type", "items", "depth", "limit", "memory", NULL};
     struct call call;
@@ -131,7 +166,7 @@ static PyObject *registry_decode_many(PyObject *self, PyObject *args, PyObject *
     PyObject *items = PyObject_GetIter(call.value), *values = items ? PyList_New(0) : NULL, *item = NULL;
     for (Py_ssize_t at = 0; values && (item = PyIter_Next(items)); at++) {
         PyObject *value = decode_one(&call, item, at);
-        if (!value || PyList_Append(values, value) < 0) Py_CLEAR(values);
+        if (!value || PyList_Append(values, value) < 0 || PyErr_CheckSignals() < 0) Py_CLEAR(values);
         Py_XDECREF(value);
         Py_DECREF(item);
     }
@@ -179,7 +214,7 @@ static PyObject *registry_decode_json(PyObject *self, PyObject *args, PyObject *
         if (code == SCALEVIEW_OK)
             made = PyUnicode_FromStringAndSize((const char *)scratch.bytes, (Py_ssize_t)answer.length);
         else
-            raise_answer(&answer, call.type, -1, budget_of(&call.limits, length));
+            raise_answer(call.shared->state, &answer, call.type, -1, budget_of(&call.limits, length));
         break;
     }
     give_scratch(call.shared, scratch);
@@ -310,6 +345,10 @@ static PyMethodDef methods[] = {
     {"decode_json", (PyCFunction)(void (*)(void))registry_decode_json, KEYWORDS,
      "decode_json($self, /, type, data, *, depth=64, limit=16777216, memory=...)\n--\n\n"
      "Returns the value as JSON text. The arguments and exceptions are those of `decode`."},
+    {"decode_prefix", (PyCFunction)(void (*)(void))registry_decode_prefix, KEYWORDS,
+     "decode_prefix($self, /, type, data, *, depth=64, limit=16777216, memory=...)\n--\n\n"
+     "Returns the value that the first bytes spell, and how many bytes it takes.\n\n"
+     "What follows the value isn't read. The arguments and exceptions are those of `decode`."},
     {"decode_many", (PyCFunction)(void (*)(void))registry_decode_many, KEYWORDS,
      "decode_many($self, /, type, items, *, depth=64, limit=16777216, memory=...)\n--\n\n"
      "Returns a list of the values of one type. The numbers and exceptions are those of `decode`, and hold\n"
@@ -356,5 +395,5 @@ static PyType_Spec spec = {
 };
 
 int make_registry_class(PyObject *module) {
-    return add_class(module, &registry_class, &spec, "Registry");
+    return add_class(module, &state_of(module)->registry_class, &spec, "Registry");
 }

@@ -22,7 +22,13 @@ static void forget_calls_of_parent(struct shared *shared) {
     shared->first = NULL;
 }
 
-struct shared *open_shared(const uint8_t *bytes, size_t length, bool metadata) {
+/* Returns whether no session of the registry may be used. */
+bool is_torn(struct shared *shared) {
+    forget_calls_of_parent(shared);
+    return shared->is_torn;
+}
+
+struct shared *open_shared(PyObject *module, const uint8_t *bytes, size_t length, bool metadata) {
     struct shared *shared = calloc(1, sizeof *shared);
     if (!shared) return (struct shared *)PyErr_NoMemory();
     scaleview_answer answer;
@@ -31,10 +37,12 @@ struct shared *open_shared(const uint8_t *bytes, size_t length, bool metadata) {
     if (state) PyEval_RestoreThread(state);
     if (code != SCALEVIEW_OK) {
         free(shared);
-        raise_answer(&answer, 0, -1, 0);
+        raise_answer(state_of(module), &answer, 0, -1, 0);
         return NULL;
     }
     shared->references = 1;
+    shared->module = new_ref(module);
+    shared->state = state_of(module);
     shared->forks = forks;
     shared->count = (uint32_t)answer.length;
     shared->version = answer.from;
@@ -71,6 +79,7 @@ void release(struct shared *shared) {
     free(shared->infos);
     free(shared->scratch.nodes);
     free(shared->scratch.bytes);
+    Py_DECREF(shared->module);
     free(shared);
 }
 

@@ -67,7 +67,7 @@ static PyObject *read_text(const struct text_of *text, scaleview_answer *answer)
     if (answer->code == SCALEVIEW_OK)
         made = PyUnicode_FromStringAndSize((const char *)out, (Py_ssize_t)answer->length);
     else
-        raise_answer(answer, text->type, -1, 0);
+        raise_answer(text->shared->state, answer, text->type, -1, 0);
     free(many);
     if (made && interns && answer->length <= INTERNED) PyUnicode_InternInPlace(&made);
     return made;
@@ -124,19 +124,23 @@ void free_info(struct type_info *info) {
         free_fields(&info->arms[i].fields);
     }
     free(info->arms);
+    free(info->arms_by_index);
     Py_XDECREF(info->arm_positions);
     free(info);
 }
 
 static int read_arm_positions(struct type_info *info) {
-    bool is_taken[256] = {false};
     info->arm_positions = PyDict_New();
-    if (!info->arm_positions) return -1;
+    info->arms_by_index = malloc((MOST_INDEX + 1) * sizeof *info->arms_by_index);
+    if (!info->arms_by_index) PyErr_NoMemory();
+    if (!info->arm_positions || !info->arms_by_index) return -1;
+    for (size_t index = 0; index <= MOST_INDEX; index++) info->arms_by_index[index] = NO_ARM;
     for (uint32_t i = 0; i < info->shape.parts; i++) {
         struct arm *arm = &info->arms[i];
-        arm->is_shadowed = is_taken[arm->index & 0xff];
+        uint32_t *first = &info->arms_by_index[arm->index & MOST_INDEX];
+        arm->is_shadowed = *first != NO_ARM;
         if (arm->is_shadowed) continue;
-        is_taken[arm->index & 0xff] = true;
+        *first = i;
         if (PyDict_GetItemWithError(info->arm_positions, arm->name)) continue;
         PyObject *position = PyErr_Occurred() ? NULL : PyLong_FromUnsignedLong(i);
         int code = position ? PyDict_SetItem(info->arm_positions, arm->name, position) : -1;
@@ -170,7 +174,7 @@ static uint32_t read_shape(struct shared *shared, uint32_t type, scaleview_type_
     enter(shared, false);
     scaleview_type(shared->registry, type, shape, &answer);
     leave(shared);
-    if (answer.code != SCALEVIEW_OK) raise_answer(&answer, type, -1, 0);
+    if (answer.code != SCALEVIEW_OK) raise_answer(shared->state, &answer, type, -1, 0);
     return answer.code;
 }
 

@@ -1,13 +1,13 @@
 /* Python values of nodes. */
 #include "native.h"
 
-enum { FEW = 24, HEX_DIGITS = 64 };
+enum { FEW = 24, HEX_DIGITS = 64, NODES_BETWEEN_SIGNALS = 1 << 16 };
 
 /* A value that is being filled with those of its node's children. */
 struct level {
     PyObject *container; /* a list, a tuple or a dict */
     PyObject **names;    /* the keys of a dict */
-    PyObject *arm;       /* the name of a variant's arm, borrowed */
+    const struct arm *arm;
     uint32_t at, count;
     enum { A_LIST, A_TUPLE, A_DICT } kind;
 };
@@ -68,7 +68,8 @@ static PyObject *leaf_of(struct reader *reader, const scaleview_node *node) {
     case SCALEVIEW_NODE_COMPACT:
     case SCALEVIEW_NODE_UNSIGNED: return unsigned_of(node->low, node->high);
     case SCALEVIEW_NODE_SIGNED: return signed_of(node->low, node->high);
-    case SCALEVIEW_NODE_COUNT: return PyObject_CallFunction(empties_class, "K", (unsigned long long)node->low);
+    case SCALEVIEW_NODE_COUNT:
+        return PyObject_CallFunction(reader->shared->state->empties_class, "K", (unsigned long long)node->low);
     case SCALEVIEW_NODE_TEXT: return PyUnicode_FromStringAndSize(bytes_at(reader, node), (Py_ssize_t)node->high);
     case SCALEVIEW_NODE_BYTES: return PyBytes_FromStringAndSize(bytes_at(reader, node), (Py_ssize_t)node->high);
     case SCALEVIEW_NODE_WIDE: return wide_of(reader, node);
@@ -83,8 +84,8 @@ static int open_level(struct reader *reader, const scaleview_node *node, struct 
         const struct type_info *info = info_of(reader->shared, node->type);
         if (!info) return -1;
         if (node->kind == SCALEVIEW_NODE_ARM) {
-            level->arm = info->arms[node->arm].name;
-            fields = &info->arms[node->arm].fields;
+            level->arm = &info->arms[node->arm];
+            fields = &level->arm->fields;
         } else {
             fields = &info->fields;
             level->kind = A_TUPLE;
@@ -112,8 +113,10 @@ static int put_item(struct level *level, PyObject *item) {
     return code;
 }
 
-static PyObject *close_level(struct level *level) {
-    return level->arm ? variant_of(level->arm, level->container) : level->container;
+static PyObject *close_level(const struct reader *reader, struct level *level) {
+    const struct arm *arm = level->arm;
+    if (!arm) return level->container;
+    return variant_of(reader->shared->state->variant_class, arm->name, level->container, (int)arm->index);
 }
 
 static int push_level(struct reader *reader, struct level level) {
@@ -139,7 +142,7 @@ static PyObject *put_value(struct reader *reader, PyObject *value) {
     while (value && reader->depth > 0) {
         struct level *top = &reader->levels[reader->depth - 1];
         if (put_item(top, value) < 0 || top->at < top->count) return NULL;
-        value = close_level(top);
+        value = close_level(reader, top);
         reader->depth--;
     }
     return value;
@@ -149,6 +152,7 @@ static PyObject *read_nodes(struct reader *reader, const scaleview_node *nodes, 
     for (size_t i = 0; i < count; i++) {
         const scaleview_node *node = &nodes[i];
         PyObject *value;
+        if ((i + 1) % NODES_BETWEEN_SIGNALS == 0 && PyErr_CheckSignals() < 0) return NULL;
         if (node->kind < SCALEVIEW_NODE_FIELDS) {
             value = leaf_of(reader, node);
         } else {
@@ -158,7 +162,7 @@ static PyObject *read_nodes(struct reader *reader, const scaleview_node *nodes, 
                 if (push_level(reader, level) < 0) return NULL;
                 continue;
             }
-            value = close_level(&level);
+            value = close_level(reader, &level);
         }
         value = put_value(reader, value);
         if (value) return value;

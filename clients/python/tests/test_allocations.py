@@ -84,9 +84,12 @@ class Allocations(unittest.TestCase):
             lambda: Registry(data).decode(12, events),
             lambda: Registry(data).encode(12, value),
             there_and_back,
+            lambda: registry.decode_prefix(12, events),
+            lambda: registry.decode_prefix(12, bytearray(events)),
             lambda: registry.decode_many(12, [events] * 3),
             lambda: registry.decode_json(12, events, depth=100),
-            lambda: repr(Variant("a", [Variant("b")])) and Variant("a", []) == Variant("a"),
+            lambda: repr(Variant("a", [Variant("b")], 3)) and Variant("a", [], 3) == Variant("a"),
+            lambda: repr(Variant("a", [], 3)) and Variant("a", [], 3).__reduce__(),
         ):
             self.check_call(call)
         self.assertEqual(registry.decode(12, events), value)

@@ -5,6 +5,7 @@ from __future__ import annotations
 import array
 import ast
 import copy
+import ctypes
 import doctest
 import inspect
 import mmap
@@ -184,6 +185,31 @@ class Values(unittest.TestCase):
         for fields in ([], (), {}):
             self.assertEqual(registry.encode(1, ("End", fields)), b"\7")
 
+    def test_arms_of_one_name_come_back_by_their_index(self) -> None:
+        # The arm B is shadowed by the second A.
+        arms = (("A", 4, ((None, 0),)), ("A", 9, ((None, 0),)), ("B", 9, ()), ("C", 0, ()))
+        registry = Registry(make.registry_of(make.primitive("u8"), make.variant(*arms), make.sequence(1)))
+        for data, index in (("0407", 4), ("0907", 9)):
+            decoder = Decoder(registry, 1)
+            decoder.feed(bytes.fromhex(data))
+            for found in (registry.decode(1, bytes.fromhex(data)), decoder.finish()):
+                self.assertEqual((found.name, found.fields, found.index), ("A", [7], index))
+                copies = [pickle.loads(pickle.dumps(found)), copy.deepcopy(found), eval(repr(found))]
+                for value in (found, *copies):
+                    self.assertEqual(registry.encode(1, value).hex(), data)
+        self.assertEqual(registry.encode(1, Variant("A", [7])).hex(), "0407")
+        self.assertEqual(registry.encode(1, Variant("C", {}, 0)).hex(), "00")
+        for value, message in (
+            (Variant("C", [], 4), "value[1]: the arm of index 4 is 'A', not 'C'"),
+            (Variant("B", [], 9), "value[1]: the arm of index 9 is 'A', not 'B'"),
+            (Variant("A", [7], 5), "value[1]: there is no arm 'A' of index 5"),
+            (Variant("A", [7], 255), "value[1]: there is no arm 'A' of index 255"),
+            (Variant("A", [], 9), "value[1].A: expected 1 fields, not 0"),
+        ):
+            with self.assertRaises(ValueError) as raised:
+                registry.encode(2, [Variant("C"), value])
+            self.assertEqual(str(raised.exception), message)
+
     def test_stored_values_of_the_examples(self) -> None:
         count = 0
         for name, registry, type_id, data, text in examples():
@@ -242,6 +268,86 @@ class Values(unittest.TestCase):
             registry.decode_many(0, failing())
 
 
+class Prefixes(unittest.TestCase):
+    registry = Registry(
+        make.registry_of(
+            make.primitive("u8"), make.sequence(0), make.members(), make.primitive("u32"), make.sequence(2),
+            make.variant(("End", 0, ()), ("Next", 1, ((None, 5),))), make.primitive("bool"), make.sequence(3),
+        )
+    )
+
+    def test_a_value_comes_with_the_number_of_its_bytes(self) -> None:
+        cases: list[tuple[int, str, Any, int]] = [
+            (0, "07", 7, 1),
+            (0, "0708", 7, 1),
+            (1, "0c010203", b"\1\2\3", 4),
+            (1, "0c010203ff00", b"\1\2\3", 4),
+            (1, "00ff", b"", 1),
+            (2, "", None, 0),
+            (2, "ff", None, 0),
+            (3, "0102000005", 0x201, 4),
+            (4, "0cff", Empties(3), 1),
+            (5, "010000", Variant("Next", [Variant("End")]), 2),
+        ]
+        for type_id, data, value, used in cases:
+            given = bytes.fromhex(data)
+            for buffer in (given, bytearray(given), memoryview(given)):
+                with self.subTest(data):
+                    self.assertEqual(self.registry.decode_prefix(type_id, buffer), (value, used))
+
+    def test_values_are_read_one_after_another(self) -> None:
+        data, values = bytes.fromhex("0401" + "080203" + "00" + "0c040506"), []
+        while data:
+            value, used = self.registry.decode_prefix(self.registry.types[1], data)
+            values.append(value)
+            data = data[used:]
+        self.assertEqual(values, [b"\1", b"\2\3", b"", b"\4\5\6"])
+
+    def test_a_long_value_is_read_with_bytes_after_it(self) -> None:
+        count = 100_000
+        data = make.compact(count) + bytes(4 * count)
+        for rest in (b"", b"\xff", b"\xff" * 500_000):
+            self.assertEqual(self.registry.decode_prefix(7, data + rest), ([0] * count, 4 + 4 * count))
+        with self.assertRaisesRegex(Refused, f"^value: Truncated at {3 + 4 * count}$"):
+            self.registry.decode_prefix(7, data[:-1])
+
+    def test_what_follows_a_value_is_not_copied(self) -> None:
+        data = bytearray(64 << 20)
+        start = time.process_time()
+        for _ in range(500):
+            self.assertEqual(self.registry.decode_prefix(3, memoryview(data)), (0, 4))
+        self.assertLess(time.process_time() - start, 1)
+
+    def test_any_buffer_begins_with_a_value(self) -> None:
+        given = bytes.fromhex("0c010203ff00")
+        doubled = bytes(byte for byte in given for _ in range(2))
+        words = (ctypes.c_uint16 * 3).from_buffer_copy(given)
+        for buffer in (memoryview(given).cast("H"), memoryview(doubled)[::2], array.array("H", given), words):
+            self.assertEqual(self.registry.decode_prefix(1, buffer), (b"\1\2\3", 4))
+        count = 50_000
+        data = make.compact(count) + b"\7\0\0\0" * count
+        self.assertEqual(self.registry.decode_prefix(7, bytearray(data + b"\1")), ([7] * count, 4 + 4 * count))
+
+    def test_a_wrong_beginning_is_rejected(self) -> None:
+        cases: list[tuple[int, bytes, dict[str, int], str]] = [
+            (0, b"", {}, "value: Truncated at 0"),
+            (1, b"\x0c\1\2", {}, "value: Truncated at 3"),
+            (6, b"\2\0", {}, "value: BadBool at 0"),
+            (5, b"\1\1\0", {"depth": 1}, "value: TooDeep at 2"),
+            (3, b"\1\2\3\4\5", {"limit": 2}, "value: TooLong at 2"),
+            (9, b"", {}, "type: UnknownType 9"),
+            (0, b"\1", {"limit": (1 << 40) + 1}, "limits: LimitOutOfRange"),
+        ]
+        for type_id, data, limits, message in cases:
+            with self.subTest(message), self.assertRaises(Refused) as raised:
+                self.registry.decode_prefix(type_id, data, **limits)
+            self.assertEqual((str(raised.exception), raised.exception.item), (message, None))
+        self.assertEqual(self.registry.decode_prefix(3, b"\1\2\0\0\5", limit=4), (0x201, 4))
+        self.assertEqual(self.registry.decode_prefix(5, b"\1\0\0", depth=1)[1], 2)
+        with self.assertRaisesRegex(OutOfMemory, "^the budget of 1000 bytes of memory is reached"):
+            self.registry.decode_prefix(7, make.compact(1000) + bytes(4000), memory=1000)
+
+
 class Classes(unittest.TestCase):
     def test_variants_are_compared_shown_and_copied(self) -> None:
         value = Variant("Some", [Variant("None")])
@@ -263,6 +369,24 @@ class Classes(unittest.TestCase):
         for wrong in ((), ("a", 5), (5, []), ("a", None), ("a", Variant("b")), ("a", [], [])):
             with self.assertRaises(TypeError):
                 Variant(*wrong)
+
+    def test_a_variant_keeps_its_index_which_is_not_compared(self) -> None:
+        value = Variant("Some", [5], 1)
+        self.assertEqual((value.index, Variant("Some", [5]).index, Variant("Some", index=0).index), (1, None, 0))
+        self.assertEqual(repr(value), "Variant('Some', [5], index=1)")
+        self.assertTrue(value == Variant("Some", [5]) == Variant("Some", [5], index=255))
+        self.assertFalse(value != Variant("Some", [5], None))
+        copies = [pickle.loads(pickle.dumps(value, protocol)) for protocol in range(pickle.HIGHEST_PROTOCOL + 1)]
+        for other in (*copies, copy.copy(value), copy.deepcopy(value)):
+            self.assertEqual((other, other.index), (value, 1))
+        self.assertIsNone(copy.copy(Variant("Some")).index)
+        for number in (-1, 256, 1 << 64):
+            with self.assertRaisesRegex(OverflowError, "^index is out of range: it has to be in 0 to 255$"):
+                Variant("Some", [5], number)
+        with self.assertRaises(TypeError):
+            Variant("Some", [5], "1")  # type: ignore[arg-type]
+        with self.assertRaises(AttributeError):
+            value.index = 2  # type: ignore[misc]
 
     @unittest.skipIf(sys.version_info < (3, 10), "there is no match statement before 3.10")
     def test_variants_are_matched(self) -> None:
@@ -499,6 +623,7 @@ class Encoding(unittest.TestCase):
 
         calls: list[Callable[..., object]] = [
             lambda **memory: registry.decode(3, data, **memory),
+            lambda **memory: registry.decode_prefix(3, data, **memory),
             lambda **memory: registry.decode_json(3, data, **memory),
             lambda **memory: registry.decode_many(3, [data], **memory),
             in_pieces,
@@ -583,6 +708,7 @@ class Pieces(unittest.TestCase):
             lambda: registry.decode(0, b"\x00\x00"),
             lambda: registry.decode_json(0, b"\x00\x00"),
             lambda: registry.decode_many(0, []),
+            lambda: registry.decode_prefix(0, b"\x00\x00"),
             lambda: registry.encode(0, 5),
             lambda: registry.types[0],
             lambda: registry.find(""),
@@ -618,6 +744,7 @@ class Arguments(unittest.TestCase):
             lambda type_id, **numbers: registry.decode(type_id, value, **numbers),
             lambda type_id, **numbers: registry.decode(type_id, bytes(9000), **numbers),
             lambda type_id, **numbers: registry.decode_json(type_id, value, **numbers),
+            lambda type_id, **numbers: registry.decode_prefix(type_id, value, **numbers),
             lambda type_id, **numbers: registry.decode_many(type_id, [value], **numbers),
             lambda type_id, **numbers: Decoder(registry, type_id, **numbers),
         ]
@@ -684,8 +811,15 @@ class Arguments(unittest.TestCase):
         wrong: Any
         registry = Registry(U16)
         decoder = Decoder(registry, 0)
+
+        def decode(data: Any) -> Any:
+            return registry.decode(0, data)
+
+        def prefix(data: Any) -> Any:
+            return registry.decode_prefix(0, data)
+
         for wrong in ("00", None, 2, [2, 0]):
-            for call in (Registry, Registry.raw, lambda data: registry.decode(0, data), decoder.feed):
+            for call in (Registry, Registry.raw, decode, prefix, decoder.feed):
                 with self.assertRaisesRegex(TypeError, f"^expected bytes .* not {type(wrong).__name__}$"):
                     call(wrong)
 
@@ -709,11 +843,12 @@ class Arguments(unittest.TestCase):
         for call, signature in (
             (Registry, "(data, *, metadata=None)"),
             (Registry.decode, f"(self, /, type, data, *, {rest}"),
+            (Registry.decode_prefix, f"(self, /, type, data, *, {rest}"),
             (Registry.decode_many, f"(self, /, type, items, *, {rest}"),
             (Registry.encode, "(self, /, type, value, *, depth=64, memory=Ellipsis)"),
             (Decoder, f"(registry, type, *, {rest}"),
             (Decoder.feed, "(self, piece, /)"),
-            (Variant, "(name, fields=[])"),
+            (Variant, "(name, fields=[], index=None)"),
         ):
             self.assertEqual(str(inspect.signature(call)), signature)
 
@@ -815,7 +950,8 @@ class Types(unittest.TestCase):
             message = f"a type is its position or a Type, not '{type(wrong).__name__}'"
             if isinstance(wrong, str):
                 message += "; find() gives the type of a path"
-            for call in (registry.decode, registry.decode_json, registry.decode_many, registry.encode):
+            calls = (registry.decode, registry.decode_prefix, registry.decode_json, registry.decode_many, registry.encode)
+            for call in calls:
                 with self.assertRaises(TypeError) as raised:
                     call(wrong, b"\x04a")
                 self.assertEqual(str(raised.exception), message)
@@ -924,6 +1060,116 @@ class Answers(unittest.TestCase):
             command = [sys.executable, str(path)]
             printed = subprocess.run(command, stdout=subprocess.PIPE, universal_newlines=True, timeout=120)
         self.assertEqual(printed.stdout, "[25185, 25699]\nvalue: Truncated at 1\n1 Truncated\n")
+
+
+class Depth(unittest.TestCase):
+    """What Python's recursion does with deep values, each time in a process of its own, which a crash would end."""
+
+    PROGRAM = """
+import copy, pickle, sys, threading
+from scaleview import Variant
+call, depth, stack = eval(sys.argv[1]), int(sys.argv[2]), int(sys.argv[3])
+def chain(fields):
+    value = Variant("End", [], 0)
+    for _ in range(depth): value = Variant("Next", fields(value), 1)
+    return value
+def run():
+    for fields in (lambda value: [value], lambda value: {"rest": value}, lambda value: (value,)):
+        try: print(call(chain(fields), chain(fields)), end=" ")
+        except RecursionError: print("RecursionError", end=" ")
+threading.stack_size(stack)
+thread = threading.Thread(target=run)
+thread.start()
+thread.join()
+"""
+    REPR = "lambda value, other: repr(value).count('Variant(') == depth + 1"
+    EQUALS = "lambda value, other: value == other and not value != other"
+    COPY = "lambda value, other: copy.deepcopy(value).name == 'Next'"
+    PICKLE = "lambda value, other: pickle.loads(pickle.dumps(value)).name == 'Next'"
+
+    def outcomes(self, call: str, depth: int, stack: int) -> list[str]:
+        command = [sys.executable, "-c", self.PROGRAM, call, str(depth), str(stack)]
+        ended = subprocess.run(command, stdout=subprocess.PIPE, universal_newlines=True)
+        self.assertEqual(ended.returncode, 0)
+        return ended.stdout.split()
+
+    def test_values_of_the_default_depth_are_used_like_others(self) -> None:
+        for call, stack in ((self.REPR, 32), (self.EQUALS, 32), (self.COPY, 512), (self.PICKLE, 512)):
+            with self.subTest(call):
+                self.assertEqual(self.outcomes(call, scaleview.DEPTH, stack << 10), ["True"] * 3)
+
+    def test_the_deepest_values_raise_recursion_errors(self) -> None:
+        """Or are used like others, if the version of Python has a greater limit. None ends the process."""
+        for call in (self.REPR, self.EQUALS, self.COPY, self.PICKLE):
+            with self.subTest(call):
+                outcomes = self.outcomes(call, 1024, 0)
+                self.assertEqual(len(outcomes), 3)
+                allowed = {"RecursionError"} if sys.version_info < (3, 12) else {"RecursionError", "True"}
+                self.assertLessEqual(set(outcomes), allowed)
+
+
+class Interpreters(unittest.TestCase):
+    """Other interpreters of a process, each time a process of its own, which a fault would end."""
+
+    BEGIN = """
+import os, sys
+try: import _interpreters as interpreters
+except ImportError: import _xxsubinterpreters as interpreters
+def create(is_isolated):
+    if sys.version_info >= (3, 13): return interpreters.create("isolated" if is_isolated else "legacy")
+    return interpreters.create(isolated=is_isolated) if sys.version_info >= (3, 9) else interpreters.create()
+"""
+    # Each of its nine checks is True.
+    USE = """
+import os, pickle, scaleview
+def is_caught(kind, call, *words, **numbers):
+    try: call(*words, **numbers)
+    except kind as error: return type(error) is kind and type(pickle.loads(pickle.dumps(error))) is kind
+registry = scaleview.Registry(DATA)
+value = registry.decode(0, bytes([1, 0]))
+checks = [
+    type(value) is scaleview.Variant,
+    value == scaleview.Variant("Next", [scaleview.Variant("End")]),
+    type(pickle.loads(pickle.dumps(value))) is scaleview.Variant,
+    registry.encode(0, value) == bytes([1, 0]),
+    type(registry.decode(1, bytes([4]))) is scaleview.Empties,
+    is_caught(scaleview.Refused, registry.decode, 0, b""),
+    is_caught(scaleview.Refused, scaleview.Decoder, registry, 9),
+    is_caught(scaleview.EncodeError, registry.encode, 0, value, depth=0),
+    is_caught(scaleview.OutOfMemory, registry.encode, 0, value, memory=1),
+]
+os.write(1, b"%d of %d, " % (checks.count(True), len(checks)))
+"""
+
+    def run_program(self, program: str) -> str:
+        command = [sys.executable, "-W", "ignore", "-c", self.BEGIN + program]
+        ended = subprocess.run(command, stdout=subprocess.PIPE, stderr=subprocess.PIPE, universal_newlines=True)
+        self.assertEqual((ended.returncode, ended.stderr), (0, ""))
+        return ended.stdout
+
+    def test_each_interpreter_has_its_own_classes(self) -> None:
+        """In the first one, twice in each of two others, and in the first one after the others have ended."""
+        data = make.registry_of(make.variant(("End", 0, ()), ("Next", 1, ((None, 0),))), make.sequence(2), make.members())
+        use = f"DATA = {data!r}\n{self.USE}"
+        program = (
+            f"use = {use!r}\n"
+            "exec(use)\n"
+            "others = [create(False), create(False)]\n"
+            "for other in others * 2: interpreters.run_string(other, use)\n"
+            "for other in others: interpreters.destroy(other)\n"
+            "exec(use)\n"
+        )
+        self.assertEqual(self.run_program(program), "9 of 9, " * 6)
+
+    @unittest.skipIf(sys.version_info < (3, 12), "all interpreters share a lock before 3.12")
+    def test_an_interpreter_with_its_own_lock_does_not_import_it(self) -> None:
+        use = (
+            "import os\n"
+            "try: import scaleview\n"
+            "except ImportError as error: os.write(1, str(error).encode())\n"
+        )
+        message = "module scaleview._native does not support loading in subinterpreters"
+        self.assertEqual(self.run_program(f"interpreters.run_string(create(True), {use!r})\n"), message)
 
 
 class Program(unittest.TestCase):

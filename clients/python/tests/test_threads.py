@@ -1,4 +1,4 @@
-"""Registries and decoders in several threads, and what they leave in memory."""
+"""Registries and decoders in several threads, signals, and what calls leave in memory."""
 
 from __future__ import annotations
 
@@ -13,7 +13,7 @@ import time
 import unittest
 import warnings
 import weakref
-from typing import Any, Callable
+from typing import Any, Callable, Iterator
 
 import registries as make
 from scaleview import Decoder, Refused, Registry, Variant
@@ -50,6 +50,22 @@ def run_threads(*bodies: Callable[[], object], stack: int = 0) -> list[BaseExcep
     return raised
 
 
+@contextlib.contextmanager
+def alarms(handler: Callable[[], object], first: float, interval: float = 0) -> Iterator[None]:
+    """Calls the handler after `first` seconds, and then at each interval if there is one."""
+    before = signal.signal(signal.SIGALRM, lambda number, frame: handler())
+    signal.setitimer(signal.ITIMER_REAL, first, interval)
+    try:
+        yield
+    finally:
+        signal.setitimer(signal.ITIMER_REAL, 0)
+        signal.signal(signal.SIGALRM, before)
+
+
+def interrupt() -> None:
+    raise KeyboardInterrupt
+
+
 def resident() -> int:
     """The memory of this process in bytes."""
     with open("/proc/self/statm") as file:
@@ -74,6 +90,7 @@ class Threads(unittest.TestCase):
                 self.assertEqual(used, (len(data) - 1) % step + 1)
                 self.assertEqual(decoder.finish(), value)
                 self.assertEqual(registry.decode(10, data), value)
+                self.assertEqual(registry.decode_prefix(10, data + data), (value, len(data)))
                 self.assertEqual(registry.encode(10, value), data)
                 self.assertEqual(decoder.finish_json(), text)
                 self.assertEqual(registry.decode_json(10, data, depth=1024), text)
@@ -191,6 +208,7 @@ class Threads(unittest.TestCase):
     def test_a_forked_process_waits_for_no_thread_of_its_parent(self) -> None:
         registry = Registry(make.registry_of(make.primitive("u16"), make.sequence(0)))
         data = make.compact(1 << 20) + bytes(2 << 20)
+        many = make.compact(1 << 17) + bytes(1 << 18)
         waiting = Decoder(registry, 0)
 
         def read() -> None:
@@ -204,6 +222,7 @@ class Threads(unittest.TestCase):
             """What another thread was writing isn't used, but there may have been no call."""
             nonlocal waiting
             assert registry.decode(0, b"\3\0") == 3
+            assert registry.decode(1, many) == [0] * (1 << 17)
             for call in (lambda: waiting.feed(b"\1\0"), lambda: Decoder(registry, 0)):
                 with contextlib.suppress(RuntimeError):
                     call()
@@ -235,6 +254,52 @@ class Threads(unittest.TestCase):
 
         for depth in (0, 63, 64, 65, 1024):
             self.assertEqual(run_threads(lambda: work(depth), stack=128 << 10), [])
+
+
+@unittest.skipUnless(hasattr(signal, "setitimer"), "there is no timer here")
+class Signals(unittest.TestCase):
+    registry = Registry(make.registry_of(make.primitive("bool"), make.sequence(0)))
+    data = make.compact(4 << 20) + bytes(4 << 20)
+
+    def check_handled(self, call: Callable[[], object]) -> None:
+        """A handler is called several times before the call ends, and not once after it."""
+        handled: list[None] = []
+        with alarms(lambda: handled.append(None), 0.001, 0.001):
+            call()
+            count = len(handled)
+        self.assertGreaterEqual(count, 5)
+
+    def test_signals_are_handled_while_bytes_are_read(self) -> None:
+        """No object is made of the bytes, since the last one is wrong."""
+        wrong = self.data[:-1] + b"\2"
+
+        def call() -> None:
+            with self.assertRaisesRegex(Refused, f"^value: BadBool at {len(wrong) - 1}$"):
+                self.registry.decode(1, wrong)
+
+        self.check_handled(call)
+
+    def test_signals_are_handled_while_objects_are_made(self) -> None:
+        """Few bytes, which the library reads in one call, make two million objects."""
+        empties = make.composite((None, 1), *[(None, 0)] * 50_000)
+        registry = Registry(make.registry_of(make.members(), make.primitive("u8"), empties, make.sequence(2)))
+        data = make.compact(40) + bytes(40)
+        self.check_handled(lambda: registry.decode(3, data, memory=None))
+
+    def test_signals_are_handled_between_values(self) -> None:
+        items = [b"\0"] * (1 << 18)
+        self.check_handled(lambda: self.registry.decode_many(0, items))
+
+    def test_an_interrupt_ends_a_call(self) -> None:
+        start = time.monotonic()
+        self.registry.decode(1, self.data)
+        whole = time.monotonic() - start
+        for call in (self.registry.decode, self.registry.decode_prefix):
+            start = time.monotonic()
+            with self.assertRaises(KeyboardInterrupt), alarms(interrupt, whole / 50):
+                call(1, self.data)
+            self.assertLess(time.monotonic() - start, whole / 2)
+        self.assertEqual(self.registry.decode(0, b"\1"), True)
 
 
 @unittest.skipUnless(sys.platform == "linux", "the memory of the process is read from /proc")
@@ -297,6 +362,7 @@ class Memory(unittest.TestCase):
             registry.decode(10, data)
             registry.decode_json(10, data)
             registry.decode_many(10, [data])
+            registry.decode_prefix(10, data + b"\0")
             registry.encode(10, value)
             with Decoder(registry, 10) as decoder:
                 decoder.feed(data)
@@ -308,6 +374,7 @@ class Memory(unittest.TestCase):
                 lambda: registry.decode(10, data[:-1]),
                 lambda: registry.decode_json(10, data[:-1]),
                 lambda: registry.decode_many(10, [data, data[:-1]]),
+                lambda: registry.decode_prefix(10, data[:-1]),
                 lambda: registry.encode(10, [*value, None]),
                 lambda: registry.encode(10, value, depth=2),
                 lambda: Registry(b"meta\x0e\x04"),
@@ -320,6 +387,22 @@ class Memory(unittest.TestCase):
         for body in (calls, failures):
             with self.subTest(body.__name__):
                 self.check_stays(body, 300, 4 << 20)
+
+    def test_an_interrupted_call_leaves_nothing(self) -> None:
+        """A session takes 25 MiB, and the value eight."""
+        registry = Registry(make.registry_of(make.primitive("bool"), make.sequence(0)))
+        data = make.compact(1 << 20) + bytes(1 << 20)
+        start = time.monotonic()
+        registry.decode(1, data)
+        whole = time.monotonic() - start
+        for part in (0.1, 0.4, 0.8):
+
+            def call() -> None:
+                with contextlib.suppress(KeyboardInterrupt), alarms(interrupt, part * whole):
+                    registry.decode(1, data)
+
+            with self.subTest(part):
+                self.check_stays(call, 20, 30 << 20)
 
     def test_calls_leave_no_object(self) -> None:
         registry = Registry((EXAMPLES / "runtime" / "metadata.scale").read_bytes())
@@ -347,6 +430,9 @@ class Memory(unittest.TestCase):
             lambda: [small.decode(n, small.encode(n, -(1 << 20) if n > 10 else 5)) for n in (3, 5, 7, 8, 11, 13, 14)],
             lambda: [small.encode(n, (1 << 127) - 1) for n in (7, 8, 13, 14)],
             lambda: small.decode(16, small.encode(16, [None] * 5)) == small.encode(1, "a") + small.encode(2, "text"),
+            lambda: registry.decode_prefix(10, data + b"\0"),
+            lambda: registry.decode_prefix(10, bytearray(data)),
+            lambda: fail(lambda: registry.decode_prefix(10, data[:-1])),
             lambda: fail(lambda: registry.decode(10, data[:-1])),
             lambda: fail(lambda: registry.decode_many(10, [data, data[:-1]])),
             lambda: fail(lambda: registry.encode(10, [*value, None])),
