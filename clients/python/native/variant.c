@@ -79,7 +79,6 @@ static PyObject *variant_repr(PyObject *self) {
 }
 
 /* The index isn't compared, so that a Variant that a program makes equals a decoded one. */
-
 static PyObject *variant_compare(PyObject *self, PyObject *other, int how) {
     if (Py_TYPE(other) != Py_TYPE(self) || (how != Py_EQ && how != Py_NE)) return new_ref(Py_NotImplemented);
     int is_same = PyObject_RichCompareBool(variant_name(self), variant_name(other), Py_EQ);
