@@ -26,16 +26,14 @@ pub(crate) fn line_where(is_so: bool, line: &'static str) -> &'static str {
     if is_so { line } else { OTHER }
 }
 
-pub(crate) fn print_line(alloc: Global) -> Option<&'static str> {
-    let checked = sample::checked(alloc)?;
-    let value = sample::value(alloc, &checked)?;
+fn print_line(alloc: Global, value: &Sampled<'_, Global>) -> &'static str {
     let mut buffer = [0u8; ROOM];
     let mut sink = Sink::new(buffer.as_mut_slice());
-    let printed = print(alloc, &value, &mut sink);
+    let printed = print(alloc, value, &mut sink);
     let failed = sink.failed();
     let left = sink.into_inner().len();
     let text = sample::TEXT.as_bytes();
-    Some(match printed {
+    match printed {
         Ok(()) => line_where(
             !failed && left == ROOM - text.len() && buffer.starts_with(text),
             "print: the whole text is written\n",
@@ -45,25 +43,21 @@ pub(crate) fn print_line(alloc: Global) -> Option<&'static str> {
             "print: out of memory, nothing is written\n",
         ),
         Err(PrintFault::Write(_)) => OTHER,
-    })
+    }
 }
 
-pub(crate) fn json_text_line(alloc: Global) -> Option<&'static str> {
-    let checked = sample::checked(alloc)?;
-    let value = sample::value(alloc, &checked)?;
-    Some(match json_text(alloc, alloc, &value) {
+fn json_text_line(alloc: Global, value: &Sampled<'_, Global>) -> &'static str {
+    match json_text(alloc, alloc, value) {
         Ok(text) => line_where(text.as_str() == sample::TEXT, "json_text: the whole text\n"),
         Err(_) => "json_text: out of memory\n",
-    })
+    }
 }
 
-pub(crate) fn json_to_slice_line(alloc: Global) -> Option<&'static str> {
-    let checked = sample::checked(alloc)?;
-    let value = sample::value(alloc, &checked)?;
+fn json_to_slice_line(alloc: Global, value: &Sampled<'_, Global>) -> &'static str {
     let mut buffer = [0u8; ROOM];
-    let answer = json_to_slice(alloc, alloc, &value, &mut buffer);
+    let answer = json_to_slice(alloc, alloc, value, &mut buffer);
     let text = sample::TEXT.as_bytes();
-    Some(match answer {
+    match answer {
         Ok(len) => line_where(
             len == text.len() && buffer.starts_with(text),
             "json_to_slice: the whole text is in front\n",
@@ -72,7 +66,7 @@ pub(crate) fn json_to_slice_line(alloc: Global) -> Option<&'static str> {
             buffer == [0; ROOM],
             "json_to_slice: out of memory, nothing is written\n",
         ),
-    })
+    }
 }
 
 pub(crate) fn value_text_line(alloc: Global) -> Option<&'static str> {
@@ -97,19 +91,38 @@ fn is_shown(alloc: Global, value: &Sampled<'_, Global>) -> bool {
     }
 }
 
-pub(crate) fn to_json_line(alloc: Global) -> Option<&'static str> {
-    let checked = sample::checked(alloc)?;
-    let value = sample::value(alloc, &checked)?;
-    Some(match to_json(alloc, &value) {
+fn to_json_line(alloc: Global, value: &Sampled<'_, Global>) -> &'static str {
+    match to_json(alloc, value) {
         Ok(Value::Object(members)) => line_where(
             members.len() == sample::MEMBERS,
             "to_json: the object of the members\n",
         ),
         Ok(_other) => OTHER,
         Err(_) => line_where(
-            is_shown(alloc, &value),
+            is_shown(alloc, value),
             "to_json: out of memory, the value is unchanged\n",
         ),
+    }
+}
+
+/// A call that shows a value.
+#[derive(Clone, Copy)]
+pub(crate) enum ValueCall {
+    Print,
+    JsonText,
+    JsonToSlice,
+    ToJson,
+}
+
+/// Makes the call on the sample's value, and returns its line.
+pub(crate) fn value_line(alloc: Global, call: ValueCall) -> Option<&'static str> {
+    let checked = sample::checked(alloc)?;
+    let value = sample::value(alloc, &checked)?;
+    Some(match call {
+        ValueCall::Print => print_line(alloc, &value),
+        ValueCall::JsonText => json_text_line(alloc, &value),
+        ValueCall::JsonToSlice => json_to_slice_line(alloc, &value),
+        ValueCall::ToJson => to_json_line(alloc, &value),
     })
 }
 

@@ -8,6 +8,7 @@ mod calls;
 mod sample;
 mod writing;
 
+use calls::ValueCall;
 use scale_core::Sink;
 use std::alloc::{AllocError, Global};
 use std::process::ExitCode;
@@ -59,23 +60,31 @@ fn lent_words(alloc: Global, words: &[String]) -> Result<Vec<&str>, AllocError> 
     Ok(lent)
 }
 
+/// Makes the call of this name, and returns its line, or `None` if its input cannot be allocated.
+fn named_call(alloc: Global, name: &str) -> Result<Option<&'static str>, NoCall> {
+    Ok(match name {
+        "print" => calls::value_line(alloc, ValueCall::Print),
+        "json_text" => calls::value_line(alloc, ValueCall::JsonText),
+        "json_to_slice" => calls::value_line(alloc, ValueCall::JsonToSlice),
+        "value_text" => calls::value_text_line(alloc),
+        "to_json" => calls::value_line(alloc, ValueCall::ToJson),
+        "Checked::new" => calls::new_line(alloc),
+        "read_registry" => Some(calls::read_registry_line(alloc)),
+        "read_metadata" => Some(calls::read_metadata_line(alloc)),
+        "write_registry" => calls::write_registry_line(alloc),
+        _ => return Err(NoCall::Usage),
+    })
+}
+
 /// Makes the call that the words name, and returns its line, or `None` if its input cannot be
 /// allocated.
 fn call(alloc: Global, words: &[&str]) -> Result<Option<&'static str>, NoCall> {
-    Ok(match words {
-        [_, "print"] => calls::print_line(alloc),
-        [_, "json_text"] => calls::json_text_line(alloc),
-        [_, "json_to_slice"] => calls::json_to_slice_line(alloc),
-        [_, "value_text"] => calls::value_text_line(alloc),
-        [_, "to_json"] => calls::to_json_line(alloc),
-        [_, "Checked::new"] => calls::new_line(alloc),
-        [_, "read_registry"] => Some(calls::read_registry_line(alloc)),
-        [_, "read_metadata"] => Some(calls::read_metadata_line(alloc)),
-        [_, "write_registry"] => calls::write_registry_line(alloc),
-        [_, "write", name] => Some(writing::write_line(alloc, name)?.ok_or(NoCall::Usage)?),
-        [_, line @ ..] if line.first() == Some(&"job") => Some(calls::job_line(alloc, line)),
-        _ => return Err(NoCall::Usage),
-    })
+    match words {
+        [_, line @ ..] if line.first() == Some(&"job") => Ok(Some(calls::job_line(alloc, line))),
+        [_, "write", name] => Ok(Some(writing::write_line(alloc, name)?.ok_or(NoCall::Usage)?)),
+        [_, name] => named_call(alloc, name),
+        _ => Err(NoCall::Usage),
+    }
 }
 
 /// Makes the call that the command line names, and returns the line of its outcome.
