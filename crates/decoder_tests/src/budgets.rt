@@ -3,7 +3,6 @@
 use budget_core::Budget;
 use std::alloc::{AllocError, Allocator};
 use std::process::Abort;
-use std::test::Fail;
 
 /// Returns a block of this many bytes, if the budget serves it.
 fn block<A: Allocator + Clone>(
@@ -24,27 +23,28 @@ fn check_left<A: Allocator + Clone>(rt: &impl Abort, budget: &Budget<A>, left: u
 }
 
 #[test]
-fn clones_share_the_bytes_that_are_left(rt: HostRuntime) -> Result<(), Fail> {
-    let budget = Budget::new(rt.alloc(), 100)?;
-    let other = budget.clone()?;
-    let first = block(&budget, 60)?;
+fn clones_share_the_bytes_that_are_left(rt: HostRuntime) {
+    let budget = Budget::new(rt.alloc(), 100).expect(&rt, "a budget");
+    let other = budget.clone().expect(&rt, "a clone");
+    let first = block(&budget, 60).expect(&rt, "a block");
     check_left(&rt, &other, 40);
-    let second = block(&other, 30)?;
+    let second = block(&other, 30).expect(&rt, "a block");
     check_left(&rt, &budget, 10);
     drop(first);
     check_left(&rt, &budget, 70);
     drop((second, other));
     check_left(&rt, &budget, 100);
-    Ok(())
 }
 
 // A list of four numbers takes 32 bytes, and one of eight takes 64.
 #[test]
-fn growth_takes_only_the_bytes_that_are_added(rt: HostRuntime) -> Result<(), Fail> {
-    let budget = Budget::new(rt.alloc(), 80)?;
-    let mut list = [0u64, 1, 2, 3].to_vec(budget.clone()?)?;
+fn growth_takes_only_the_bytes_that_are_added(rt: HostRuntime) {
+    let budget = Budget::new(rt.alloc(), 80).expect(&rt, "a budget");
+    let mut list = [0u64, 1, 2, 3]
+        .to_vec(budget.clone().expect(&rt, "a clone"))
+        .expect(&rt, "a list");
     check_left(&rt, &budget, 48);
-    list.extend_from_slice(&[4, 5, 6, 7])?;
+    assert!(rt; list.extend_from_slice(&[4, 5, 6, 7]).is_ok());
     assert_eq!(rt; list.capacity(), 8);
     check_left(&rt, &budget, 16);
     assert!(rt; list.push(8).is_err());
@@ -52,26 +52,25 @@ fn growth_takes_only_the_bytes_that_are_added(rt: HostRuntime) -> Result<(), Fai
     assert_eq!(rt; list.as_slice(), [0, 1, 2, 3, 4, 5, 6, 7].as_slice());
     drop(list);
     check_left(&rt, &budget, 80);
-    Ok(())
 }
 
 #[test]
-fn a_refusal_of_the_other_allocator_takes_no_bytes(rt: HostRuntime) -> Result<(), Fail> {
-    let narrower = Budget::new(rt.alloc(), 600)?;
-    let budget = Budget::new(narrower.clone()?, 200)?;
-    let held = block(&narrower, 500)?;
+fn a_refusal_of_the_other_allocator_takes_no_bytes(rt: HostRuntime) {
+    let narrower = Budget::new(rt.alloc(), 600).expect(&rt, "a budget");
+    let budget = Budget::new(narrower.clone().expect(&rt, "a clone"), 200).expect(&rt, "a budget");
+    let held = block(&narrower, 500).expect(&rt, "a block");
     assert!(rt; block(&budget, 150).is_err());
-    let mut list = [0u64, 1, 2, 3, 4, 5, 6, 7].to_vec(budget.clone()?)?;
+    let mut list = [0u64, 1, 2, 3, 4, 5, 6, 7]
+        .to_vec(budget.clone().expect(&rt, "a clone"))
+        .expect(&rt, "a list");
     assert!(rt; list.push(8).is_err());
     assert_eq!(rt; list.as_slice(), [0, 1, 2, 3, 4, 5, 6, 7].as_slice());
     drop(held);
     check_left(&rt, &budget, 136);
-    Ok(())
 }
 
 #[test]
-fn zero_bytes_stand_for_no_budget(rt: HostRuntime) -> Result<(), Fail> {
-    let budget = Budget::new(rt.alloc(), 0)?;
+fn zero_bytes_stand_for_no_budget(rt: HostRuntime) {
+    let budget = Budget::new(rt.alloc(), 0).expect(&rt, "a budget");
     assert!(rt; block(&budget, 1_000_000).is_ok());
-    Ok(())
 }

@@ -3,20 +3,18 @@
 use crate::expect::same;
 use form_core::{whole_compact, whole_run};
 use scale_core::Target;
-use std::test::Fail;
 use value_core::{Leaf, RunKind};
 
 #[test]
-fn a_run_that_stands_whole_on_the_front_is_lent(rt: HostRuntime) -> Result<(), Fail> {
+fn a_run_that_stands_whole_on_the_front_is_lent(rt: HostRuntime) {
     let Some((Leaf::Text(text), 3)) = whole_run(RunKind::Text, &[8, 97, 98, 99]) else {
-        return Err("a text of two bytes, and one that follows".into());
+        panic!(rt; "a text of two bytes, and one that follows");
     };
     same(&rt, text, [97, 98].as_slice());
     let Some((Leaf::Bytes(bytes), 3)) = whole_run(RunKind::Bytes, &[8, 255, 0]) else {
-        return Err("two bytes".into());
+        panic!(rt; "two bytes");
     };
     same(&rt, bytes, [255, 0].as_slice());
-    Ok(())
 }
 
 #[test]

@@ -3,64 +3,78 @@
 
 use crate::decoder_memory::{REFUSED, letters};
 use crate::expect::same;
-use decode_core::{DecodeFault, DecodeReason, Progress};
-use decoder_calls::calls::{Holding, feed, finish, held, open};
+use decode_core::{DecodeFault, DecodeReason, Decoder, Progress};
 use linked_list_allocator::LocalHeap;
 use scale_tests::building::checked;
 use scale_tests::registries::{BYTES, LONG_ARRAY, LONG_ARRAY_OF_WORDS, U8, WORDS, nested_pairs};
 use scale_tests::rows::AMPLE;
 use std::alloc::Global;
 use std::process::Abort;
-use std::test::Fail;
+use test_calls::calls::{Holding, feed, finish, held, open};
 use value_core::What;
+use widths_core::Checked;
 
-#[test]
-fn a_value_of_two_to_the_fortieth_units_is_one_node(rt: HostRuntime) -> Result<(), Fail> {
-    let registry = nested_pairs(rt.alloc())?;
-    let checked = checked(rt.alloc(), &registry)?;
-    let heap = LocalHeap::new(rt.alloc(), 65_536)?;
-    let mut decoder = open(&heap, &checked, 40, AMPLE)?;
-    let reported = feed(&mut decoder, b"");
-    same(&rt, reported, Ok(Progress::Done { used: 0 }));
-    let value = finish(decoder).ok().ok_or("no value")?;
-    same(&rt, (value.node_count(), value.text_bytes()), (1, 0));
-    drop(value);
-    same(&rt, heap.used(), 0);
-    Ok(())
+/// Checks that a value of type 40 takes no bytes and is one node.
+fn check_units(rt: &impl Abort, heap: &LocalHeap, checked: &Checked) {
+    let mut decoder = open(heap, checked, 40, AMPLE).expect(rt, "a decoder");
+    same(rt, feed(&mut decoder, b""), Ok(Progress::Done { used: 0 }));
+    let value = finish(decoder).expect(rt, "a value");
+    same(rt, value.node_count(), 1);
+    same(rt, value.text_bytes(), 0);
 }
 
-/// Feeds too few bytes for a value of type 1 to a decoder on a heap of this size. Checks the counts
-/// of nodes and of bytes of runs, and that the value is truncated.
-fn check_claim(
+#[test]
+fn a_value_of_two_to_the_fortieth_units_is_one_node(rt: HostRuntime) {
+    let registry = nested_pairs(rt.alloc()).expect(&rt, "memory");
+    let checked = checked(rt.alloc(), &registry).expect(&rt, "a registry");
+    let heap = LocalHeap::new(rt.alloc(), 65_536).expect(&rt, "a heap");
+    check_units(&rt, &heap, &checked);
+    same(&rt, heap.used(), 0);
+}
+
+/// Feeds too few bytes for a value of type 1. Checks the counts of nodes and of bytes of runs, and
+/// that the value is truncated.
+fn check_cut(
     rt: &impl Abort,
-    alloc: Global,
-    size: usize,
-    (registry, bytes): (&[u8], &[u8]),
+    heap: &LocalHeap,
+    checked: &Checked,
+    bytes: &[u8],
     (nodes, texts): (u64, u64),
-) -> Result<(), Fail> {
-    let heap = LocalHeap::new(alloc, size)?;
-    let checked = checked(alloc, registry)?;
+) {
+    let mut decoder = open(heap, checked, 1, AMPLE).expect(rt, "a decoder");
+    same(rt, feed(&mut decoder, bytes), Ok(Progress::More));
     let taken = bytes.len() as u64;
-    let mut decoder = open(&heap, &checked, 1, AMPLE)?;
-    let reported = feed(&mut decoder, bytes);
     let wanted = Holding {
         nodes,
         texts,
         taken,
     };
-    same(rt, (reported, held(&decoder)), (Ok(Progress::More), wanted));
+    same(rt, held(&decoder), wanted);
     let cut = DecodeFault {
         reason: DecodeReason::Truncated,
         at: taken,
     };
     same(rt, finish(decoder).err(), Some(cut));
+}
+
+/// Feeds too few bytes for a value of type 1 to a decoder on a heap of this size. Checks the counts
+/// of nodes and of bytes of runs, and that nothing stays allocated.
+fn check_claim(
+    rt: &impl Abort,
+    alloc: Global,
+    size: usize,
+    (registry, bytes): (&[u8], &[u8]),
+    counts: (u64, u64),
+) {
+    let heap = LocalHeap::new(alloc, size).expect(rt, "a heap");
+    let checked = checked(alloc, registry).expect(rt, "a registry");
+    check_cut(rt, &heap, &checked, bytes, counts);
     same(rt, heap.used(), 0);
-    Ok(())
 }
 
 // A sequence claims 2^30 - 1 elements and an array 2^32 - 1, but only a few bytes follow.
 #[test]
-fn claimed_lengths_fit_a_small_heap(rt: HostRuntime) -> Result<(), Fail> {
+fn claimed_lengths_fit_a_small_heap(rt: HostRuntime) {
     let sequence = b"\xfe\xff\xff\xff\x01\x02".as_slice();
     let array = b"\x01\x02\x03".as_slice();
     let claims = [
@@ -70,49 +84,78 @@ fn claimed_lengths_fit_a_small_heap(rt: HostRuntime) -> Result<(), Fail> {
         (65_536, (LONG_ARRAY_OF_WORDS, array), (2, 0)),
     ];
     'claims: for (size, claim, counts) in claims {
-        check_claim(&rt, rt.alloc(), size, claim, counts)?;
+        check_claim(&rt, rt.alloc(), size, claim, counts);
     }
-    Ok(())
 }
 
 // 2^30 - 1 words are claimed and a thousand follow, whose nodes take 24 kB. The heap has room for
 // six times as many, which is enough while the nodes are moved.
 #[test]
-fn a_claimed_length_takes_room_by_what_came(rt: HostRuntime) -> Result<(), Fail> {
-    let words = letters(rt.alloc(), 1_073_741_823, 2000)?;
+fn a_claimed_length_takes_room_by_what_came(rt: HostRuntime) {
+    let words = letters(rt.alloc(), 1_073_741_823, 2000).expect(&rt, "memory");
     check_claim(&rt, rt.alloc(), 150_000, (WORDS, &words), (1001, 0))
+}
+
+/// Feeds a piece whose allocation fails, and checks that the decoder then holds nothing.
+fn check_refused(rt: &impl Abort, decoder: &mut Decoder<'_, &LocalHeap>, piece: &[u8]) {
+    same(rt, feed(decoder, piece), Err(REFUSED));
+    let Holding { nodes, texts, .. } = held(decoder);
+    same(rt, nodes, 0);
+    same(rt, texts, 0);
+}
+
+/// Returns a decoder to which more bytes were fed than the heap holds.
+fn exceeded<'r>(
+    rt: &impl Abort,
+    heap: &'r LocalHeap,
+    checked: &'r Checked,
+    many: &[u8],
+) -> Decoder<'r, &'r LocalHeap> {
+    let mut decoder = open(heap, checked, 1, AMPLE).expect(rt, "a decoder");
+    check_refused(rt, &mut decoder, many);
+    decoder
+}
+
+/// Checks that a decoder that exceeded the heap fails at each later call.
+fn check_exceeded(rt: &impl Abort, heap: &LocalHeap, checked: &Checked, many: &[u8]) {
+    let mut decoder = exceeded(rt, heap, checked, many);
+    'pieces: for piece in [b"".as_slice(), b"\x07", many] {
+        check_refused(rt, &mut decoder, piece);
+    }
+    same(rt, finish(decoder).err(), Some(REFUSED));
 }
 
 // A failed allocation ends a decoder for good.
 #[test]
-fn a_heap_of_fixed_size_bounds_a_decoder(rt: HostRuntime) -> Result<(), Fail> {
-    let checked = checked(rt.alloc(), BYTES)?;
-    let heap = LocalHeap::new(rt.alloc(), 4096)?;
-    let many = letters(rt.alloc(), 65_536, 65_536)?;
-    let mut decoder = open(&heap, &checked, 1, AMPLE)?;
-    'pieces: for piece in [many.as_slice(), b"", b"\x07", &many] {
-        let reported = feed(&mut decoder, piece);
-        let Holding { nodes, texts, .. } = held(&decoder);
-        same(&rt, (reported, nodes, texts), (Err(REFUSED), 0, 0));
-    }
-    same(&rt, finish(decoder).err(), Some(REFUSED));
+fn a_heap_of_fixed_size_bounds_a_decoder(rt: HostRuntime) {
+    let checked = checked(rt.alloc(), BYTES).expect(&rt, "a registry");
+    let heap = LocalHeap::new(rt.alloc(), 4096).expect(&rt, "a heap");
+    let many = letters(rt.alloc(), 65_536, 65_536).expect(&rt, "memory");
+    check_exceeded(&rt, &heap, &checked, &many);
     same(&rt, heap.used(), 0);
-    Ok(())
+}
+
+/// Checks that a decoder on the heap decodes a byte.
+fn check_byte(rt: &impl Abort, heap: &LocalHeap, checked: &Checked) {
+    let mut decoder = open(heap, checked, 0, AMPLE).expect(rt, "a decoder");
+    let reported = feed(&mut decoder, b"\x2a");
+    same(rt, reported, Ok(Progress::Done { used: 1 }));
+    let value = finish(decoder).expect(rt, "a value");
+    same(rt, value.root().what(), What::Unsigned(42));
+}
+
+/// Checks that the heap serves a decoder of a byte beside one that has exceeded it.
+fn check_next(rt: &impl Abort, heap: &LocalHeap, sequence: &Checked, byte: &Checked, many: &[u8]) {
+    let _full = exceeded(rt, heap, sequence, many);
+    check_byte(rt, heap, byte)
 }
 
 // A heap that one decoder has exceeded serves the next one.
 #[test]
-fn a_full_heap_serves_the_next_decoder(rt: HostRuntime) -> Result<(), Fail> {
-    let sequence = checked(rt.alloc(), BYTES)?;
-    let byte = checked(rt.alloc(), U8)?;
-    let heap = LocalHeap::new(rt.alloc(), 4096)?;
-    let many = letters(rt.alloc(), 65_536, 65_536)?;
-    let mut decoder = open(&heap, &sequence, 1, AMPLE)?;
-    same(&rt, feed(&mut decoder, &many), Err(REFUSED));
-    let mut decoder = open(&heap, &byte, 0, AMPLE)?;
-    let reported = feed(&mut decoder, b"\x2a");
-    same(&rt, reported, Ok(Progress::Done { used: 1 }));
-    let value = finish(decoder).ok().ok_or("no value")?;
-    same(&rt, value.root().what(), What::Unsigned(42));
-    Ok(())
+fn a_full_heap_serves_the_next_decoder(rt: HostRuntime) {
+    let sequence = checked(rt.alloc(), BYTES).expect(&rt, "a registry");
+    let byte = checked(rt.alloc(), U8).expect(&rt, "a registry");
+    let heap = LocalHeap::new(rt.alloc(), 4096).expect(&rt, "a heap");
+    let many = letters(rt.alloc(), 65_536, 65_536).expect(&rt, "memory");
+    check_next(&rt, &heap, &sequence, &byte, &many)
 }

@@ -2,7 +2,6 @@
 //! fail.
 
 use crate::expect::same;
-use decoder_calls::calls::front_of;
 use json_core::{PrintFault, json_to_slice, print};
 use registry_core::TypeId;
 use scale_core::{Sink, SinkFault};
@@ -12,20 +11,15 @@ use scale_tests::registries::BYTES;
 use scale_tests::rows::{AMPLE, ROWS, Row};
 use std::alloc::{AllocError, Global};
 use std::process::Abort;
-use std::test::Fail;
+use test_calls::calls::front_of;
 use value_core::{Builder, Value, WriteFault};
 
 /// Checks slices of every length up to one byte more than the text. The text is written at the
 /// start if it fits, and nothing else changes.
-fn check_slices(
-    rt: &impl Abort,
-    alloc: Global,
-    value: &Value<'_, Global>,
-    text: &[u8],
-) -> Result<(), AllocError> {
+fn check_slices(rt: &impl Abort, alloc: Global, value: &Value<'_, Global>, text: &[u8]) {
     'rooms: for room in 0..text.len() + 2 {
-        let mut out = vec![in alloc; b'.'; room]?;
-        let mut wanted = vec![in alloc; b'.'; room]?;
+        let mut out = vec![in alloc; b'.'; room].expect(rt, "memory");
+        let mut wanted = vec![in alloc; b'.'; room].expect(rt, "memory");
         if text.len() <= room {
             wanted[..text.len()].copy_from_slice(text);
         }
@@ -36,7 +30,6 @@ fn check_slices(
         );
         same(rt, out.as_slice(), wanted.as_slice());
     }
-    Ok(())
 }
 
 /// Checks writers that end at this place of the text. The error reports the place, and the bytes
@@ -58,33 +51,35 @@ fn check_place(
             reason,
             written: place as u64,
         });
-        let printed = print(alloc, value, &mut sink);
-        same(rt, (printed, sink.failed()), (Err(wanted), true));
+        same(rt, print(alloc, value, &mut sink), Err(wanted));
+        same(rt, sink.failed(), true);
         let taken = sink.into_inner().taken;
         same(rt, Some(taken.as_slice()), text.get(..place));
     }
 }
 
-/// Decodes the row's value. Checks its text for every length of a slice, and for every place where
-/// a writer may end.
-fn check_row(rt: &impl Abort, alloc: Global, row: &Row) -> Result<(), Fail> {
-    let checked = checked(alloc, row.registry)?;
-    let Ok((value, _)) = front_of(alloc, &checked, row.ty, AMPLE, &[row.bytes]) else {
-        return Err(row.name)?;
-    };
-    check_slices(rt, alloc, &value, row.json.as_bytes())?;
-    'places: for place in 0..row.json.len() {
-        check_place(rt, alloc, &value, row.json.as_bytes(), place);
+/// Checks the value's text for every length of a slice, and for every place where a writer may end.
+fn check_text(rt: &impl Abort, alloc: Global, value: &Value<'_, Global>, text: &[u8]) {
+    check_slices(rt, alloc, value, text);
+    'places: for place in 0..text.len() {
+        check_place(rt, alloc, value, text, place);
     }
-    Ok(())
+}
+
+/// Decodes the row's value, and checks its text.
+fn check_row(rt: &impl Abort, alloc: Global, row: &Row) {
+    let checked = checked(alloc, row.registry).expect(rt, "a registry");
+    let Ok((value, _)) = front_of(alloc, &checked, row.ty, AMPLE, &[row.bytes]) else {
+        panic!(rt; "{}", row.name);
+    };
+    check_text(rt, alloc, &value, row.json.as_bytes());
 }
 
 #[test]
-fn a_text_may_end_at_each_byte(rt: HostRuntime) -> Result<(), Fail> {
+fn a_text_may_end_at_each_byte(rt: HostRuntime) {
     'rows: for row in &ROWS {
         if row.refusal.is_empty() {
-            check_row(&rt, rt.alloc(), row)?;
+            check_row(&rt, rt.alloc(), row);
         }
     }
-    Ok(())
 }

@@ -1,28 +1,21 @@
 //! What most tests do with a builder: create it, make calls that succeed, and take the value that
 //! they build.
 
-use crate::building::{Call, add, written};
+use crate::building::{Call, add};
 use registry_core::TypeId;
 use std::alloc::{Allocator, Global};
-use std::test::Fail;
-use value_core::{Builder, Value};
+use value_core::{BuildFault, Builder, Value};
 use widths_core::Checked;
 
-/// Creates a builder of a value of this type, with this depth limit.
-///
-/// # Errors
-///
-/// If the builder rejects the type or the limit.
+/// Creates a builder of a value of this type, with this depth limit. Returns `None` if it rejects
+/// the type or the limit.
 pub fn begun<'r, A: Allocator + Clone>(
     alloc: A,
     checked: &'r Checked,
     ty: u32,
     depth: u16,
-) -> Result<Builder<'r, A>, Fail> {
-    match Builder::new(alloc, checked, TypeId(ty), depth) {
-        Ok(builder) => Ok(builder),
-        Err(fault) => Err(fault)?,
-    }
+) -> Option<Builder<'r, A>> {
+    Builder::new(alloc, checked, TypeId(ty), depth).ok()
 }
 
 /// Makes these calls, and stops at the first one that is rejected.
@@ -30,61 +23,36 @@ pub fn begun<'r, A: Allocator + Clone>(
 /// # Errors
 ///
 /// The first call that is rejected.
-pub fn add_all<A: Allocator>(builder: &mut Builder<'_, A>, calls: &[Call<'_>]) -> Result<(), Fail> {
+pub fn add_all<A: Allocator>(
+    builder: &mut Builder<'_, A>,
+    calls: &[Call<'_>],
+) -> Result<(), BuildFault> {
     'calls: for call in calls {
         add(builder, *call)?;
     }
     Ok(())
 }
 
-/// Finishes a builder that lacks no node, and returns its value.
-///
-/// # Errors
-///
-/// If a node is missing.
-pub fn finished<A: Allocator>(builder: Builder<'_, A>) -> Result<Value<'_, A>, Fail> {
-    match builder.finish() {
-        Ok(value) => Ok(value),
-        Err(_) => Err("the value is not whole")?,
-    }
+/// Finishes a builder, and returns its value, or `None` if a node is missing.
+pub fn finished<A: Allocator>(builder: Builder<'_, A>) -> Option<Value<'_, A>> {
+    builder.finish().ok()
 }
 
-/// Returns the value of this type that these calls build, with this depth limit.
-///
-/// # Errors
-///
-/// The first call that is rejected, or a node that is missing.
+/// Returns the value of this type that these calls build, with this depth limit, or `None` if a
+/// call is rejected or a node is missing.
 pub fn built<'r>(
     alloc: Global,
     checked: &'r Checked,
     ty: u32,
     depth: u16,
     calls: &[Call<'_>],
-) -> Result<Value<'r, Global>, Fail> {
+) -> Option<Value<'r, Global>> {
     let mut builder = begun(alloc, checked, ty, depth)?;
-    add_all(&mut builder, calls)?;
+    add_all(&mut builder, calls).ok()?;
     finished(builder)
 }
 
 /// Returns the value's number of nodes, and its number of bytes of texts and runs.
 pub fn counts<A: Allocator>(value: &Value<'_, A>) -> (u64, u64) {
     (value.node_count(), value.text_bytes())
-}
-
-/// Checks that the value is written as these bytes.
-///
-/// # Errors
-///
-/// If a write fails, or the bytes differ.
-pub fn check_written<A: Allocator>(
-    alloc: Global,
-    value: &Value<'_, A>,
-    spelled: &[u8],
-) -> Result<(), Fail> {
-    let bytes = written(alloc, value)?;
-    if bytes.as_slice() == spelled {
-        Ok(())
-    } else {
-        Err("the value is written otherwise")?
-    }
 }

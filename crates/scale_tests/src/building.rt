@@ -3,7 +3,6 @@
 use registry_core::{TypeId, read_registry};
 use scale_core::Sink;
 use std::alloc::{Allocator, Global};
-use std::test::Fail;
 use value_core::{BuildFault, Builder, Next, Value, encode};
 use widths_core::Checked;
 
@@ -40,17 +39,11 @@ pub struct Standing {
     pub depth: u16,
 }
 
-/// Returns the checked registry of these bytes.
-///
-/// # Errors
-///
-/// If they hold no registry, or a type refers to one that doesn't exist.
-pub fn checked(alloc: Global, bytes: &[u8]) -> Result<Checked, Fail> {
-    let (registry, _) = read_registry(alloc, bytes)?;
-    match Checked::new(alloc, registry) {
-        Ok(checked) => Ok(checked),
-        Err(_) => Err("a reference is unknown")?,
-    }
+/// Returns the checked registry of these bytes, or `None` if they hold no registry or a type refers
+/// to one that doesn't exist.
+pub fn checked(alloc: Global, bytes: &[u8]) -> Option<Checked> {
+    let (registry, _) = read_registry(alloc, bytes).ok()?;
+    Checked::new(alloc, registry).ok()
 }
 
 /// Makes the call.
@@ -92,15 +85,19 @@ pub fn what_stands<A: Allocator>(builder: &Builder<'_, A>) -> Standing {
     }
 }
 
-/// Returns the bytes of a value, as they are written.
-///
-/// # Errors
-///
-/// If a write fails.
-pub fn written<A: Allocator>(alloc: Global, value: &Value<'_, A>) -> Result<Vec<u8>, Fail> {
+/// Returns the bytes of a value, as they are written, or `None` if a write fails.
+pub fn written<A: Allocator>(alloc: Global, value: &Value<'_, A>) -> Option<Vec<u8>> {
     let mut sink = Sink::new(Vec::new(alloc));
     match encode(value, &mut sink) {
-        Ok(()) => Ok(sink.into_inner()),
-        Err(_) => Err("a write failed")?,
+        Ok(()) if !sink.failed() => Some(sink.into_inner()),
+        _ => None,
+    }
+}
+
+/// Returns whether the value is written as these bytes.
+pub fn is_written<A: Allocator>(alloc: Global, value: &Value<'_, A>, bytes: &[u8]) -> bool {
+    match written(alloc, value) {
+        Some(written) => written.as_slice() == bytes,
+        None => false,
     }
 }

@@ -4,8 +4,8 @@
 use crate::expect::same;
 use linked_list_allocator::LocalHeap;
 use registry_core::TypeId;
-use scale_tests::builders::{add_all, begun, check_written, counts, finished};
-use scale_tests::building::{Call, Standing, add, checked, what_stands};
+use scale_tests::builders::{begun, counts, finished};
+use scale_tests::building::{Call, Standing, add, checked, is_written, what_stands};
 use scale_tests::rationed::Rationed;
 use scale_tests::registries::{
     BYTES, CHARACTER, COMPACT_OF_A_BOOL, COMPACT_U128, OPTION, TEXT, TEXT_AND_BYTES,
@@ -13,7 +13,6 @@ use scale_tests::registries::{
 };
 use std::alloc::{Allocator, Global};
 use std::process::Abort;
-use std::test::Fail;
 use value_core::{BuildFault, Builder};
 use widths_core::Checked;
 
@@ -58,12 +57,54 @@ type Row = (
 
 const I8: &[u8] = b"\x04\x00\x00\x00\x05\x09\x00";
 
-/// Every kind of call that allocates, on a builder without capacity for what it adds. The calls
-/// that begin a text or a run of bytes don't allocate.
-const ROWS: [Row; 20] = [
+/// Every kind of call that adds a node other than a text or a run, on a builder without capacity
+/// for it.
+const NODES: [Row; 12] = [
     (UNITS, 1, &[], Call::Empty, &[], b""),
     (COMPACT_OF_A_BOOL, 0, &[], Call::Bool(true), &[], b"\x01"),
     (CHARACTER, 0, &[], Call::Char('a'), &[], b"a\x00\x00\x00"),
+    (U8, 0, &[], Call::Unsigned(42), &[], b"*"),
+    (
+        COMPACT_U128,
+        0,
+        &[],
+        Call::Unsigned(18_446_744_073_709_551_616),
+        &[],
+        b"\0\0\0\0\0\0\0\0\x01\0\0\0\0\0\0\0",
+    ),
+    (I8, 0, &[], Call::Signed(-2), &[], b"\xfe"),
+    (WIDE, 0, &[], Call::Wide([7; 32]), &[], &[7; 32]),
+    (COMPACT_U128, 1, &[], Call::Compact(63), &[], b"\xfc"),
+    (UNITS, 2, &[], Call::Count(3), &[], b"\x0c"),
+    (
+        TWO_UNITS_AND_A_BYTE,
+        2,
+        &[],
+        Call::Fields,
+        &[Call::Empty, Call::Empty, Call::Unsigned(42)],
+        b"*",
+    ),
+    (
+        OPTION,
+        1,
+        &[],
+        Call::Arm(1),
+        &[Call::Unsigned(42)],
+        b"\x01*\x00\x00\x00",
+    ),
+    (
+        WORDS,
+        1,
+        &[],
+        Call::List(1),
+        &[Call::Unsigned(7)],
+        b"\x04\x07\x00",
+    ),
+];
+
+/// Every kind of call that allocates for a text or a run of bytes, on a builder without capacity
+/// for what it adds. The calls that begin a text or a run don't allocate.
+const RUNS: [Row; 8] = [
     (TEXT, 0, &[], Call::Text("a"), &[], b"\x04a"),
     (
         TEXT,
@@ -114,43 +155,6 @@ const ROWS: [Row; 20] = [
         &[],
         b"\x00",
     ),
-    (U8, 0, &[], Call::Unsigned(42), &[], b"*"),
-    (
-        COMPACT_U128,
-        0,
-        &[],
-        Call::Unsigned(18_446_744_073_709_551_616),
-        &[],
-        b"\0\0\0\0\0\0\0\0\x01\0\0\0\0\0\0\0",
-    ),
-    (I8, 0, &[], Call::Signed(-2), &[], b"\xfe"),
-    (WIDE, 0, &[], Call::Wide([7; 32]), &[], &[7; 32]),
-    (COMPACT_U128, 1, &[], Call::Compact(63), &[], b"\xfc"),
-    (UNITS, 2, &[], Call::Count(3), &[], b"\x0c"),
-    (
-        TWO_UNITS_AND_A_BYTE,
-        2,
-        &[],
-        Call::Fields,
-        &[Call::Empty, Call::Empty, Call::Unsigned(42)],
-        b"*",
-    ),
-    (
-        OPTION,
-        1,
-        &[],
-        Call::Arm(1),
-        &[Call::Unsigned(42)],
-        b"\x01*\x00\x00\x00",
-    ),
-    (
-        WORDS,
-        1,
-        &[],
-        Call::List(1),
-        &[Call::Unsigned(7)],
-        b"\x04\x07\x00",
-    ),
 ];
 
 /// Checks that a failed allocation was reported and changed nothing.
@@ -199,13 +203,13 @@ fn refused_calls<A: Allocator + Clone>(
     alloc: Global,
     checked: &Checked,
     memory: A,
-) -> Result<u32, Fail> {
-    let mut builder = begun(memory, checked, 5, 64)?;
+) -> u32 {
+    let mut builder = begun(memory, checked, 5, 64).expect(rt, "a builder");
     let refused = add_all_twice(rt, &mut builder, &MIXED_CALLS);
-    let value = finished(builder)?;
+    let value = finished(builder).expect(rt, "a value");
     same(rt, counts(&value), (11, 9));
-    check_written(alloc, &value, MIXED_BYTES)?;
-    Ok(refused)
+    same(rt, is_written(alloc, &value, MIXED_BYTES), true);
+    refused
 }
 
 /// Builds a value while this request fails. Checks that one call reports the failure and that
@@ -216,27 +220,27 @@ fn is_requested(
     checked: &Checked,
     heap: &LocalHeap,
     request: u64,
-) -> Result<bool, Fail> {
+) -> bool {
     let memory = Rationed::new(heap, request);
-    let refused = refused_calls(rt, alloc, checked, &memory)?;
-    same(rt, (request, heap.used()), (request, 0));
+    let refused = refused_calls(rt, alloc, checked, &memory);
+    same(rt, heap.used(), 0);
     let is_made = memory.is_past_refusal();
-    same(rt, (request, refused), (request, u32::from(is_made)));
-    Ok(is_made)
+    same(rt, refused, u32::from(is_made));
+    is_made
 }
 
 // Nodes, bytes of texts and open nodes are stored separately, and each store grows at least once.
 #[test]
-fn a_failed_allocation_changes_nothing(rt: HostRuntime) -> Result<(), Fail> {
-    let checked = checked(rt.alloc(), MIXED)?;
-    let heap = LocalHeap::new(rt.alloc(), 65_536)?;
+fn a_failed_allocation_changes_nothing(rt: HostRuntime) {
+    let checked = checked(rt.alloc(), MIXED).expect(&rt, "a registry");
+    let heap = LocalHeap::new(rt.alloc(), 65_536).expect(&rt, "a heap");
     'requests: for request in 1..1000 {
-        if !is_requested(&rt, rt.alloc(), &checked, &heap, request)? {
-            same(&rt, (request, request > 3), (request, true));
-            return Ok(());
+        if !is_requested(&rt, rt.alloc(), &checked, &heap, request) {
+            same(&rt, request > 3, true);
+            return;
         }
     }
-    Err("an allocation of each run fails")?
+    panic!(rt; "an allocation of each run fails")
 }
 
 /// Builds the row's value with this allocator. Returns whether the row's call reports a failed
@@ -246,41 +250,56 @@ fn is_refused<A: Allocator + Clone>(
     alloc: Global,
     checked: &Checked,
     memory: A,
-    row: Row,
-) -> Result<bool, Fail> {
-    let (_, ty, before, call, after, bytes) = row;
-    let mut builder = begun(memory, checked, ty, 64)?;
+    row: &Row,
+) -> bool {
+    let (_, ty, before, call, after, bytes) = *row;
+    let mut builder = begun(memory, checked, ty, 64).expect(rt, "a builder");
     add_all_twice(rt, &mut builder, before);
     let refused = add_twice(rt, &mut builder, call);
     add_all_twice(rt, &mut builder, after);
-    let value = finished(builder)?;
-    check_written(alloc, &value, bytes)?;
-    Ok(refused)
+    let value = finished(builder).expect(rt, "a value");
+    same(rt, is_written(alloc, &value, bytes), true);
+    refused
 }
 
 /// Lets each allocation of the row fail in turn. Returns how often the row's call reports it.
-fn refusals_of(rt: &impl Abort, alloc: Global, row: Row) -> Result<u32, Fail> {
-    let checked = checked(alloc, row.0)?;
+fn refusals_of(rt: &impl Abort, alloc: Global, checked: &Checked, row: &Row) -> u32 {
     let mut refusals: u32 = 0;
     'requests: for request in 1..100 {
         let memory = Rationed::new(alloc, request);
-        if is_refused(rt, alloc, &checked, &memory, row)? {
+        if is_refused(rt, alloc, checked, &memory, row) {
             refusals = refusals.saturating_add(1);
         }
         if !memory.is_past_refusal() {
-            return Ok(refusals);
+            return refusals;
         }
     }
-    Err("an allocation of each run fails")?
+    panic!(rt; "an allocation of each run fails")
+}
+
+/// Checks that the call of each row reports a failed allocation.
+fn check_rows(rt: &impl Abort, alloc: Global, rows: &[Row]) {
+    'rows: for row in rows {
+        let checked = checked(alloc, row.0).expect(rt, "a registry");
+        let refusals = refusals_of(rt, alloc, &checked, row);
+        same(rt, refusals > 0, true);
+    }
+}
+
+/// Checks the rows of [`NODES`].
+fn check_nodes(rt: &impl Abort, alloc: Global) {
+    check_rows(rt, alloc, &NODES);
+}
+
+/// Checks the rows of [`RUNS`].
+fn check_runs(rt: &impl Abort, alloc: Global) {
+    check_rows(rt, alloc, &RUNS);
 }
 
 #[test]
-fn each_kind_of_call_reports_a_failed_allocation(rt: HostRuntime) -> Result<(), Fail> {
-    'rows: for row in ROWS {
-        let refusals = refusals_of(&rt, rt.alloc(), row)?;
-        same(&rt, refusals > 0, true);
-    }
-    Ok(())
+fn each_kind_of_call_reports_a_failed_allocation(rt: HostRuntime) {
+    check_nodes(&rt, rt.alloc());
+    check_runs(&rt, rt.alloc());
 }
 
 /// A call, and the error with which it is rejected.
@@ -329,38 +348,58 @@ const ORDERS: [Order; 3] = [
     ),
 ];
 
-#[test]
-fn a_bad_call_is_reported_before_a_failed_allocation(rt: HostRuntime) -> Result<(), Fail> {
-    'orders: for (registry, ty, request, answers, is_made) in ORDERS {
-        let checked = checked(rt.alloc(), registry)?;
-        let memory = Rationed::new(rt.alloc(), request);
-        let mut builder = begun(&memory, &checked, ty, 64)?;
-        'calls: for (call, fault) in answers {
-            same(&rt, add(&mut builder, *call).err(), *fault);
-        }
-        same(&rt, memory.is_past_refusal(), is_made);
+/// Makes the calls on a builder with this allocator, and checks their errors.
+fn check_answers<A: Allocator + Clone>(
+    rt: &impl Abort,
+    checked: &Checked,
+    memory: A,
+    ty: u32,
+    answers: &[Answer],
+) {
+    let mut builder = begun(memory, checked, ty, 64).expect(rt, "a builder");
+    'calls: for answer in answers {
+        let (call, fault) = *answer;
+        same(rt, add(&mut builder, call).err(), fault);
     }
-    Ok(())
 }
+
+/// Makes the calls of each order, and checks their errors and whether the request is made.
+fn check_orders(rt: &impl Abort, alloc: Global, orders: &[Order]) {
+    'orders: for order in orders {
+        let (registry, ty, request, answers, is_made) = *order;
+        let checked = checked(alloc, registry).expect(rt, "a registry");
+        let memory = Rationed::new(alloc, request);
+        check_answers(rt, &checked, &memory, ty, answers);
+        same(rt, memory.is_past_refusal(), is_made);
+    }
+}
+
+#[test]
+fn a_bad_call_is_reported_before_a_failed_allocation(rt: HostRuntime) {
+    check_orders(&rt, rt.alloc(), &ORDERS);
+}
+
+/// A request that fails, a type, a depth limit, and the error of a new builder.
+type New = (u64, u32, u16, Option<BuildFault>);
+
+const NEW_BUILDERS: [New; 7] = [
+    (1, 1, 64, Some(BuildFault::UnknownType)),
+    (1, 1, 1025, Some(BuildFault::UnknownType)),
+    (1, 0, 1025, Some(BuildFault::OutOfRange)),
+    (1, 0, 1024, Some(BuildFault::OutOfMemory)),
+    (2, 0, 1024, Some(BuildFault::OutOfMemory)),
+    (3, 0, 1024, None),
+    (0, 0, 1024, None),
+];
 
 // A builder clones its allocator twice, for its nodes and for its bytes.
 #[test]
-fn a_builder_without_memory_is_not_made(rt: HostRuntime) -> Result<(), Fail> {
-    let checked = checked(rt.alloc(), U8)?;
-    let rows = [
-        (1, 1, 64, Some(BuildFault::UnknownType)),
-        (1, 1, 1025, Some(BuildFault::UnknownType)),
-        (1, 0, 1025, Some(BuildFault::OutOfRange)),
-        (1, 0, 1024, Some(BuildFault::OutOfMemory)),
-        (2, 0, 1024, Some(BuildFault::OutOfMemory)),
-        (3, 0, 1024, None),
-        (0, 0, 1024, None),
-    ];
-    'rows: for (request, ty, depth, fault) in rows {
+fn a_builder_without_memory_is_not_made(rt: HostRuntime) {
+    let checked = checked(rt.alloc(), U8).expect(&rt, "a registry");
+    'rows: for row in &NEW_BUILDERS {
+        let (request, ty, depth, fault) = *row;
         let memory = Rationed::new(rt.alloc(), request);
         let reported = Builder::new(memory, &checked, TypeId(ty), depth).err();
-        let name = (request, ty, depth);
-        same(&rt, (name, reported), (name, fault));
+        same(&rt, reported, fault);
     }
-    Ok(())
 }

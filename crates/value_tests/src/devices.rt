@@ -2,6 +2,7 @@
 //! a few bytes a call.
 
 use crate::expect::same;
+use crate::values::TEXT_AND_RUN;
 use scale_core::{Sink, SinkFault, Source, SourceFault};
 use scale_tests::builders::built;
 use scale_tests::building::{Call, checked};
@@ -12,7 +13,6 @@ use std::alloc::Global;
 use std::io;
 use std::io::Read;
 use std::process::Abort;
-use std::test::Fail;
 use value_core::{Value, WriteFault, encode};
 
 /// A reader that gives one byte a call, the number of the call. The second call is interrupted.
@@ -88,30 +88,29 @@ fn check_writes(
 
 // The bytes of a node and those of its run are one write each, if the writer takes them at once.
 #[test]
-fn a_node_takes_two_writes_at_most(rt: HostRuntime) -> Result<(), Fail> {
-    let checked = checked(rt.alloc(), TEXT_AND_BYTES)?;
-    let calls = [Call::Fields, Call::Text("ab"), Call::Bytes(b"\x07\xff\x00")];
-    let value = built(rt.alloc(), &checked, 3, 64, &calls)?;
+fn a_node_takes_two_writes_at_most(rt: HostRuntime) {
+    let checked = checked(rt.alloc(), TEXT_AND_BYTES).expect(&rt, "a registry");
+    let value = built(rt.alloc(), &checked, 3, 64, &TEXT_AND_RUN).expect(&rt, "a value");
     let bytes = b"\x08ab\x07\xff\x00";
     check_writes(&rt, rt.alloc(), &value, usize::MAX, (bytes, 3));
     check_writes(&rt, rt.alloc(), &value, 1, (bytes, 6));
-    Ok(())
 }
 
-#[test]
-fn an_interrupted_write_is_a_failed_one(rt: HostRuntime) -> Result<(), Fail> {
-    let checked = checked(rt.alloc(), TEXT_AND_BYTES)?;
-    let value = built(rt.alloc(), &checked, 1, 0, &[Call::Text("ab")])?;
+/// Checks that the second write of the value is interrupted and reported as failed.
+fn check_interrupted(rt: &impl Abort, value: &Value<'_, Global>) {
     let mut sink = Sink::new(StutteringWriter { calls: 0 });
     let wanted = WriteFault {
         reason: SinkFault::Device,
         written: 1,
     };
-    same(
-        &rt,
-        (encode(&value, &mut sink), sink.failed()),
-        (Err(wanted), true),
-    );
-    same(&rt, sink.into_inner().calls, 2);
-    Ok(())
+    same(rt, encode(value, &mut sink), Err(wanted));
+    same(rt, sink.failed(), true);
+    same(rt, sink.into_inner().calls, 2);
+}
+
+#[test]
+fn an_interrupted_write_is_a_failed_one(rt: HostRuntime) {
+    let checked = checked(rt.alloc(), TEXT_AND_BYTES).expect(&rt, "a registry");
+    let value = built(rt.alloc(), &checked, 1, 0, &[Call::Text("ab")]).expect(&rt, "a value");
+    check_interrupted(&rt, &value);
 }

@@ -8,7 +8,6 @@ use scale_tests::building::{Call, Standing, add, checked, what_stands};
 use scale_tests::registries::{BYTES, TEXT, WORDS};
 use std::alloc::Global;
 use std::process::Abort;
-use std::test::Fail;
 use value_core::{BuildFault, Builder};
 use widths_core::Checked;
 
@@ -47,54 +46,40 @@ fn first_refusal(
     None
 }
 
-/// Repeats the call until it fails, and checks that the failed call changes nothing.
-fn fill(
-    rt: &impl Abort,
-    builder: &mut Builder<'_, &LocalHeap>,
-    call: Call<'_>,
-) -> Result<(), Fail> {
-    match first_refusal(builder, call) {
-        Some((fault, before)) => {
-            check_refusal(rt, builder, fault, before);
-            Ok(())
-        }
-        None => Err("the heap does not fill")?,
-    }
+/// Checks that the call succeeds and changes what the builder reports.
+fn check_added(rt: &impl Abort, builder: &mut Builder<'_, &LocalHeap>, call: Call<'_>) {
+    let before = what_stands(builder);
+    same(rt, add(builder, call), Ok(()));
+    same(rt, what_stands(builder) != before, true);
 }
 
-/// Fills a heap of this size, of which another vector holds seven eighths. Checks that the call
-/// that failed succeeds once that vector is freed.
-fn check_full_heap(
-    rt: &impl Abort,
-    alloc: Global,
-    checked: &Checked,
-    row: Row,
-    size: usize,
-) -> Result<(), Fail> {
-    let (_, ty, opening, call) = row;
-    let heap = LocalHeap::new(alloc, size)?;
-    let held: Vec<u8, &LocalHeap> = Vec::with_capacity(&heap, size - size / 8)?;
-    let mut builder = begun(&heap, checked, ty, 64)?;
-    add(&mut builder, opening)?;
-    fill(rt, &mut builder, call)?;
+/// Fills a heap, of which another vector holds this many bytes. Checks that the call that fails
+/// changes nothing, and succeeds once that vector is freed.
+fn check_fill(rt: &impl Abort, heap: &LocalHeap, checked: &Checked, row: &Row, held: usize) {
+    let (_, ty, opening, call) = *row;
+    let held: Vec<u8, &LocalHeap> = Vec::with_capacity(heap, held).expect(rt, "memory");
+    let mut builder = begun(heap, checked, ty, 64).expect(rt, "a builder");
+    same(rt, add(&mut builder, opening), Ok(()));
+    let (fault, before) = first_refusal(&mut builder, call).expect(rt, "the heap does not fill");
+    check_refusal(rt, &builder, fault, before);
     drop(held);
-    let before = what_stands(&builder);
-    same(rt, add(&mut builder, call), Ok(()));
-    same(rt, what_stands(&builder) != before, true);
-    drop(builder);
-    same(rt, (size, heap.used()), (size, 0));
-    Ok(())
+    check_added(rt, &mut builder, call);
+}
+
+/// Fills a heap of this size, and checks that nothing stays allocated.
+fn check_full_heap(rt: &impl Abort, alloc: Global, checked: &Checked, row: &Row, size: usize) {
+    let heap = LocalHeap::new(alloc, size).expect(rt, "a heap");
+    check_fill(rt, &heap, checked, row, size - size / 8);
+    same(rt, heap.used(), 0);
 }
 
 #[test]
-fn a_builder_on_a_full_heap_goes_on_when_memory_is_free(rt: HostRuntime) -> Result<(), Fail> {
-    'rows: for row in ROWS {
-        let checked = checked(rt.alloc(), row.0)?;
-        'sizes: for size in [16_384, 65_536] {
-            check_full_heap(&rt, rt.alloc(), &checked, row, size)?;
-        }
+fn a_builder_on_a_full_heap_goes_on_when_memory_is_free(rt: HostRuntime) {
+    'rows: for row in &ROWS {
+        let checked = checked(rt.alloc(), row.0).expect(&rt, "a registry");
+        check_full_heap(&rt, rt.alloc(), &checked, row, 16_384);
+        check_full_heap(&rt, rt.alloc(), &checked, row, 65_536);
     }
-    Ok(())
 }
 
 /// A registry, calls that build a part of a value of its type 1, and the counts of nodes and bytes
@@ -123,26 +108,20 @@ const CLAIMS: [Claim; 2] = [
 ];
 
 /// Checks that the calls succeed on a small heap, and the counts that the builder then reports.
-fn check_claim(
-    rt: &impl Abort,
-    alloc: Global,
-    registry: &[u8],
-    calls: &[Call<'_>],
-    wanted: (u64, u64),
-) -> Result<(), Fail> {
-    let checked = checked(alloc, registry)?;
-    let heap = LocalHeap::new(alloc, 4096)?;
-    let mut builder = begun(&heap, &checked, 1, 64)?;
-    add_all(&mut builder, calls)?;
-    same(rt, (builder.node_count(), builder.text_bytes()), wanted);
-    Ok(())
+fn check_claim(rt: &impl Abort, heap: &LocalHeap, checked: &Checked, claim: &Claim) {
+    let (_, calls, (nodes, texts)) = *claim;
+    let mut builder = begun(heap, checked, 1, 64).expect(rt, "a builder");
+    same(rt, add_all(&mut builder, calls), Ok(()));
+    same(rt, builder.node_count(), nodes);
+    same(rt, builder.text_bytes(), texts);
 }
 
 // Memory is allocated for what was added, not for the claimed length.
 #[test]
-fn a_claimed_length_takes_no_memory(rt: HostRuntime) -> Result<(), Fail> {
-    'claims: for (registry, calls, wanted) in CLAIMS {
-        check_claim(&rt, rt.alloc(), registry, calls, wanted)?;
+fn a_claimed_length_takes_no_memory(rt: HostRuntime) {
+    'claims: for claim in &CLAIMS {
+        let heap = LocalHeap::new(rt.alloc(), 4096).expect(&rt, "a heap");
+        let checked = checked(rt.alloc(), claim.0).expect(&rt, "a registry");
+        check_claim(&rt, &heap, &checked, claim);
     }
-    Ok(())
 }

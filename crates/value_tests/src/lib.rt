@@ -1,5 +1,5 @@
-//! Tests of builders and values: failed allocations, full heaps, walks, the nodes of a value, and
-//! devices that fail.
+//! Tests of integers, registries, builders and values: worked examples, failed allocations, full
+//! heaps, the memory that claimed lengths reserve, walks, large registries, and devices that fail.
 #![tactic(auto)]
 
 #[cfg(test)]
@@ -11,7 +11,17 @@ mod expect;
 #[cfg(test)]
 mod full_heaps;
 #[cfg(test)]
+mod growth;
+#[cfg(test)]
+mod integers;
+#[cfg(test)]
+mod large_registries;
+#[cfg(test)]
+mod memory;
+#[cfg(test)]
 mod open_runs;
+#[cfg(test)]
+mod registries;
 #[cfg(test)]
 mod values;
 #[cfg(test)]

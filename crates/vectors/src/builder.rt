@@ -1,18 +1,17 @@
 //! Builders: the calls of each row with their answers, what comes next, and the value they build.
 
-use crate::calls::written;
-use crate::steps::{ACCEPTED, Step, step_of};
-use decoder_calls::calls::{all_of, shown};
+use crate::columns::{is_nothing, parsed};
+use crate::registries::{Registries, checked};
+use crate::steps::{ACCEPTED, Action, Step, step_of};
+use crate::way::Way;
+use crate::wrong::{Wrong, check_same, check_text, differing};
 use registry_core::TypeId;
 use scale_core::Source;
 use scale_tests::builders::counts;
-use scale_tests::building::{Standing, add, what_stands};
+use scale_tests::building::{Standing, add, what_stands, written};
 use std::alloc::{AllocError, Global};
+use test_calls::calls::{all_of, shown};
 use value_core::{BuildFault, Builder, Limits, Value};
-use vector_tables::columns::{depth_of, is_nothing, type_of};
-use vector_tables::registries::{Registries, checked};
-use vector_tables::way::Way;
-use vector_tables::wrong::{Wrong, check_same, check_text, differing};
 use widths_core::Checked;
 
 /// The most bytes of a value that is decoded again.
@@ -34,8 +33,8 @@ fn row_of<'a>(columns: &[&'a str]) -> Result<Row<'a>, Wrong> {
         return Err(Wrong::Column("one of six"));
     };
     Ok(Row {
-        ty: type_of(ty)?,
-        depth: depth_of(depth)?,
+        ty: parsed(ty, "a type")?,
+        depth: parsed(depth, "a depth")?,
         calls: *calls,
         encoding: *encoding,
     })
@@ -96,6 +95,24 @@ fn check_next(
     check_text(alloc, way, wanted, &line)
 }
 
+/// Makes the call of a step, if it has one, and returns the builder after it.
+fn check_action<'r>(
+    alloc: Global,
+    way: Way,
+    builder: Builder<'r, Global>,
+    step: Step<'_>,
+) -> Result<Builder<'r, Global>, Wrong> {
+    match step.action()? {
+        Action::Look => Ok(builder),
+        Action::Finish => check_unfinished(alloc, way, builder, step.answer),
+        Action::Call => {
+            let mut builder = builder;
+            check_call(alloc, way, &mut builder, step)?;
+            Ok(builder)
+        }
+    }
+}
+
 /// Runs a step, and returns the builder after it.
 fn check_step<'r>(
     alloc: Global,
@@ -103,13 +120,7 @@ fn check_step<'r>(
     builder: Builder<'r, Global>,
     step: Step<'_>,
 ) -> Result<Builder<'r, Global>, Wrong> {
-    let mut builder = builder;
-    match step.name {
-        "" if step.next.is_none() => return Err(Wrong::Column("a step")),
-        "" => {}
-        "finish" => builder = check_unfinished(alloc, way, builder, step.answer)?,
-        _ => check_call(alloc, way, &mut builder, step)?,
-    }
+    let builder = check_action(alloc, way, builder, step)?;
     if let Some(next) = step.next {
         check_next(alloc, way, &builder, next)?;
     }
@@ -171,7 +182,7 @@ fn check_value(
     last: Standing,
     value: &Value<'_, Global>,
 ) -> Result<(), Wrong> {
-    let bytes = written(alloc, value)?;
+    let bytes = written(alloc, value).ok_or(Wrong::Call("encode"))?;
     let encoding = column_of(alloc, &bytes)?;
     check_text(alloc, Way::Encode, row.encoding, &encoding)?;
     let reported = (last.nodes, last.texts);
@@ -196,6 +207,21 @@ fn check_end(
     }
 }
 
+/// Creates the builder of a row, and runs its steps. Returns their number, plus one for the end of
+/// the builder.
+fn check_builder(alloc: Global, checked: &Checked, row: Row<'_>) -> Result<u64, Wrong> {
+    let builder = match Builder::new(alloc, checked, TypeId(row.ty), row.depth) {
+        Ok(builder) => builder,
+        Err(fault) => {
+            check_fault(alloc, Way::Open, row.encoding, fault)?;
+            return Ok(1);
+        }
+    };
+    let (builder, steps) = check_steps(alloc, builder, row.calls)?;
+    check_end(alloc, checked, row, builder)?;
+    Ok((steps as u64).saturating_add(1))
+}
+
 /// Checks one row. Returns the number of its steps, plus one for the end of the builder.
 pub(crate) fn check_row(
     alloc: Global,
@@ -205,14 +231,5 @@ pub(crate) fn check_row(
     let row = row_of(columns)?;
     let registry = registries.bytes_of(alloc, columns)?;
     let checked = checked(alloc, &registry)?;
-    let builder = match Builder::new(alloc, &checked, TypeId(row.ty), row.depth) {
-        Ok(builder) => builder,
-        Err(fault) => {
-            check_fault(alloc, Way::Open, row.encoding, fault)?;
-            return Ok(1);
-        }
-    };
-    let (builder, steps) = check_steps(alloc, builder, row.calls)?;
-    check_end(alloc, &checked, row, builder)?;
-    Ok((steps as u64).saturating_add(1))
+    check_builder(alloc, &checked, row)
 }

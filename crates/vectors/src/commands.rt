@@ -1,37 +1,20 @@
 //! The command: each command line, run over memory.
 
+use crate::columns::{bytes_of, is_nothing, parsed};
 use crate::values::Row;
-use command_runs::ran::{Devices, NONE, Ran};
+use crate::way::Way;
+use crate::wrong::{Wrong, check_bytes, check_same, check_text};
 use scale_core::Sink;
 use scale_tests::paced::{PacedReader, Then};
 use scale_tool::{Device, Job, JobFault, explain, job, unopened};
 use std::alloc::{AllocError, Global};
-use vector_tables::columns::{bytes_of, is_nothing, number_of};
-use vector_tables::way::Way;
-use vector_tables::wrong::{Wrong, check_bytes, check_same, check_text};
+use test_calls::ran::{Devices, NONE, Ran, wanted};
 
 /// The most bytes that a device moves in a call: one, and all that a row has.
 const STEPS: [usize; 2] = [1, 1 << 20];
 
 /// The command's limit on the bytes of a value.
 const MOST_BYTES: u64 = 16_777_216;
-
-/// Returns the result that the command should have for a value's row.
-fn wanted_of(alloc: Global, row: &Row<'_>) -> Result<Ran, AllocError> {
-    let refusal = row.whole_refusal(alloc)?;
-    if refusal.is_empty() {
-        return Ok(Ran {
-            status: 0,
-            out: format!(in alloc; "{}\n", row.json)?.into_bytes(),
-            err: Vec::new(alloc),
-        });
-    }
-    Ok(Ran {
-        status: 1,
-        out: Vec::new(alloc),
-        err: format!(in alloc; "scaleview: value: {refusal}\n")?.into_bytes(),
-    })
-}
 
 /// Checks the result of a run.
 fn check_ran(alloc: Global, way: Way, wanted: &Ran, found: &Ran) -> Result<(), Wrong> {
@@ -46,7 +29,7 @@ pub(crate) fn check_command(alloc: Global, registry: &[u8], row: &Row<'_>) -> Re
     if row.limits.bytes != MOST_BYTES {
         return Ok(0);
     }
-    let wanted = wanted_of(alloc, row)?;
+    let wanted = wanted(alloc, row.json, &row.whole_refusal(alloc)?)?;
     let job = Job::Decode {
         id: row.ty,
         metadata: false,
@@ -161,7 +144,12 @@ fn check_columns(
     ran: &Ran,
 ) -> Result<(), Wrong> {
     let (status, out, err) = columns;
-    check_same(alloc, way, number_of(status)?, u64::from(ran.status))?;
+    check_same(
+        alloc,
+        way,
+        parsed(status, "a number")?,
+        u64::from(ran.status),
+    )?;
     check_bytes(alloc, way, unescaped(alloc, out)?.as_bytes(), &ran.out)?;
     if err == "clap" {
         return check_same(alloc, way, false, ran.err.is_empty());

@@ -4,18 +4,23 @@
 #![tactic(auto)]
 
 mod builder;
-mod calls;
+mod columns;
 mod commands;
+mod compacts;
+mod registries;
 mod shown;
 mod steps;
 mod table;
+mod types;
 mod values;
+mod way;
+mod wrong;
 
+use registries::Registries;
 use std::process::ExitCode;
 use std::rt::Files;
 use std::{fs, io};
 use table::Table;
-use vector_tables::registries::Registries;
 
 const TABLES: [Table; 6] = [
     Table::Compacts,
@@ -32,7 +37,8 @@ fn check_tables<R: Files + Print + AllocGlobal>(rt: &R) -> io::Result<u64> {
     let registries = Registries::new(rt.alloc(), &registries_text)?;
     let mut wrong = 0u64;
     for table in TABLES {
-        let text = fs::read_to_string(rt, table.file())?;
+        let file = format!(in rt.alloc(); "{}.tsv", table.name())?;
+        let text = fs::read_to_string(rt, file.as_str())?;
         let tally = table::check_table(rt, table, &registries, &text)?;
         println!(rt;
             "{}: {} rows in {} ways, {} wrong",

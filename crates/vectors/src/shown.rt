@@ -1,14 +1,14 @@
 //! A value as every call shows it: its counts, its bytes, its tree and its text.
 
-use crate::calls::{printed, written};
 use crate::values::Row;
-use decoder_calls::calls::{all_of, shown, shown_tree};
+use crate::way::Way;
+use crate::wrong::{Wrong, check_bytes, check_same, check_text};
 use json_core::json_to_slice;
 use scale_core::Source;
+use scale_tests::building::written;
 use std::alloc::Global;
+use test_calls::calls::{all_of, printed, shown, shown_tree};
 use value_core::Value;
-use vector_tables::way::Way;
-use vector_tables::wrong::{Wrong, check_bytes, check_same, check_text};
 use widths_core::Checked;
 
 /// Checks that the value has the counts, the bytes and the text of the row.
@@ -21,7 +21,8 @@ pub(crate) fn check_value(
     check_same(alloc, way, row.held.nodes, value.node_count())?;
     check_same(alloc, way, row.held.texts, value.text_bytes())?;
     let spelling = row.value().ok_or(Wrong::Column("Done"))?;
-    check_bytes(alloc, way, spelling, &written(alloc, value)?)?;
+    let bytes = written(alloc, value).ok_or(Wrong::Call("encode"))?;
+    check_bytes(alloc, way, spelling, &bytes)?;
     check_text(alloc, way, row.json, &shown(alloc, value)?)
 }
 
@@ -32,21 +33,13 @@ fn check_slice(alloc: Global, row: &Row<'_>, value: &Value<'_, Global>) -> Resul
     let mut wanted = Vec::from_slice(alloc, row.json.as_bytes())?;
     wanted.extend_from_slice(b"..")?;
     let mut out = vec![in alloc; b'.'; wanted.len()]?;
-    check_same(
-        alloc,
-        Way::Slice,
-        Ok(len),
-        json_to_slice(alloc, alloc, value, &mut out),
-    )?;
+    let written = json_to_slice(alloc, alloc, value, &mut out);
+    check_same(alloc, Way::Slice, Ok(len), written)?;
     check_bytes(alloc, Way::Slice, &wanted, &out)?;
     let mut short = vec![in alloc; b'.'; len.saturating_sub(1)]?;
     let untouched = vec![in alloc; b'.'; len.saturating_sub(1)]?;
-    check_same(
-        alloc,
-        Way::Slice,
-        Ok(len),
-        json_to_slice(alloc, alloc, value, &mut short),
-    )?;
+    let needed = json_to_slice(alloc, alloc, value, &mut short);
+    check_same(alloc, Way::Slice, Ok(len), needed)?;
     check_bytes(alloc, Way::Slice, &untouched, &short)
 }
 
@@ -61,12 +54,8 @@ pub(crate) fn check_forms(alloc: Global, checked: &Checked, row: &Row<'_>) -> Re
         return Err(Wrong::Column("a value"));
     };
     check_text(alloc, Way::Tree, row.json, &shown_tree(alloc, &value)?)?;
-    check_bytes(
-        alloc,
-        Way::Print,
-        row.json.as_bytes(),
-        &printed(alloc, &value)?,
-    )?;
+    let printed = printed(alloc, &value).ok_or(Wrong::Call("print"))?;
+    check_bytes(alloc, Way::Print, row.json.as_bytes(), &printed)?;
     check_slice(alloc, row, &value)?;
     Ok(4)
 }

@@ -1,9 +1,9 @@
 //! The steps of a builder's row: calls with their answers, and what comes next.
 
+use crate::columns::{bytes_of, parsed};
+use crate::wrong::Wrong;
 use scale_tests::building::Call;
 use std::alloc::Global;
-use vector_tables::columns::bytes_of;
-use vector_tables::wrong::Wrong;
 
 /// The answer of a call that succeeds.
 pub(crate) const ACCEPTED: &str = "accepted";
@@ -18,6 +18,16 @@ pub(crate) struct Step<'a> {
     pub(crate) answer: &'a str,
     /// What comes next as `Debug` prints it, and its depth, if the row has them.
     pub(crate) next: Option<&'a str>,
+}
+
+/// What a step does.
+#[derive(Clone, Copy)]
+pub(crate) enum Action {
+    /// It only looks at what comes next.
+    Look,
+    Finish,
+    /// It makes a call that adds a node, or a part of a text or of a run.
+    Call,
 }
 
 /// Splits a step into its call and what comes next.
@@ -45,6 +55,16 @@ pub(crate) fn step_of(text: &str) -> Step<'_> {
 }
 
 impl Step<'_> {
+    /// Returns what the step does.
+    pub(crate) fn action(&self) -> Result<Action, Wrong> {
+        match self.name {
+            "" if self.next.is_none() => Err(Wrong::Column("a step")),
+            "" => Ok(Action::Look),
+            "finish" => Ok(Action::Finish),
+            _ => Ok(Action::Call),
+        }
+    }
+
     /// Returns the bytes of the argument, or no bytes if the call takes none.
     pub(crate) fn bytes(&self, alloc: Global) -> Result<Vec<u8>, Wrong> {
         match self.name {
@@ -59,64 +79,47 @@ impl Step<'_> {
     pub(crate) fn call<'b>(&self, bytes: &'b [u8]) -> Result<Call<'b>, Wrong> {
         match self.name {
             "empty" => Ok(Call::Empty),
-            "bool" => Ok(Call::Bool(bool_of(self.argument)?)),
-            "char" => Ok(Call::Char(char_of(self.argument)?)),
             "text" => Ok(Call::Text(text_of(bytes)?)),
-            "text_start" => Ok(Call::TextStart(length_of(self.argument)?)),
             "text_piece" => Ok(Call::TextPiece(bytes)),
             "text_end" => Ok(Call::TextEnd),
             "bytes" => Ok(Call::Bytes(bytes)),
-            "bytes_start" => Ok(Call::BytesStart(length_of(self.argument)?)),
             "bytes_piece" => Ok(Call::BytesPiece(bytes)),
             "bytes_end" => Ok(Call::BytesEnd),
-            "unsigned" => Ok(Call::Unsigned(unsigned_of(self.argument)?)),
-            "signed" => Ok(Call::Signed(signed_of(self.argument)?)),
             "wide" => Ok(Call::Wide(wide_of(bytes)?)),
-            "compact" => Ok(Call::Compact(unsigned_of(self.argument)?)),
-            "count" => Ok(Call::Count(length_of(self.argument)?)),
             "fields" => Ok(Call::Fields),
-            "arm" => Ok(Call::Arm(index_of(self.argument)?)),
-            "list" => Ok(Call::List(length_of(self.argument)?)),
+            _ => self.call_with_number(),
+        }
+    }
+
+    /// Returns the call, if its argument is a number, a character's code or a boolean.
+    fn call_with_number(&self) -> Result<Call<'static>, Wrong> {
+        match self.name {
+            "bool" => Ok(Call::Bool(parsed(self.argument, "a bool")?)),
+            "char" => Ok(Call::Char(char_of(self.argument)?)),
+            "unsigned" => Ok(Call::Unsigned(parsed(self.argument, "unsigned")?)),
+            "signed" => Ok(Call::Signed(parsed(self.argument, "signed")?)),
+            "compact" => Ok(Call::Compact(parsed(self.argument, "unsigned")?)),
+            "arm" => Ok(Call::Arm(parsed(self.argument, "an index")?)),
+            _ => self.call_with_length(),
+        }
+    }
+
+    /// Returns the call, if its argument is a length.
+    fn call_with_length(&self) -> Result<Call<'static>, Wrong> {
+        match self.name {
+            "text_start" => Ok(Call::TextStart(parsed(self.argument, "a length")?)),
+            "bytes_start" => Ok(Call::BytesStart(parsed(self.argument, "a length")?)),
+            "count" => Ok(Call::Count(parsed(self.argument, "a length")?)),
+            "list" => Ok(Call::List(parsed(self.argument, "a length")?)),
             _ => Err(Wrong::Column("a call")),
         }
     }
 }
 
-/// Reads a boolean.
-fn bool_of(argument: &str) -> Result<bool, Wrong> {
-    argument.parse::<bool>().ok().ok_or(Wrong::Column("a bool"))
-}
-
 /// Reads a character by its code.
 fn char_of(argument: &str) -> Result<char, Wrong> {
-    let code = length_of(argument)?;
+    let code = parsed(argument, "a length")?;
     char::from_u32(code).ok_or(Wrong::Column("a character"))
-}
-
-/// Reads a length.
-fn length_of(argument: &str) -> Result<u32, Wrong> {
-    argument
-        .parse::<u32>()
-        .ok()
-        .ok_or(Wrong::Column("a length"))
-}
-
-/// Reads the index of an arm.
-fn index_of(argument: &str) -> Result<u8, Wrong> {
-    argument.parse::<u8>().ok().ok_or(Wrong::Column("an index"))
-}
-
-/// Reads an unsigned integer.
-fn unsigned_of(argument: &str) -> Result<u128, Wrong> {
-    argument
-        .parse::<u128>()
-        .ok()
-        .ok_or(Wrong::Column("unsigned"))
-}
-
-/// Reads a signed integer.
-fn signed_of(argument: &str) -> Result<i128, Wrong> {
-    argument.parse::<i128>().ok().ok_or(Wrong::Column("signed"))
 }
 
 /// Returns the text of these bytes.

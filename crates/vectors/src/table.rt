@@ -1,11 +1,10 @@
 //! The tables, and how many of their rows are answered correctly.
 
-use crate::{builder, commands, values};
+use crate::registries::Registries;
+use crate::wrong::Wrong;
+use crate::{builder, commands, compacts, registries, types, values};
 use std::alloc::Global;
 use std::io;
-use vector_tables::registries::Registries;
-use vector_tables::wrong::Wrong;
-use vector_tables::{compacts, registries, types};
 
 /// A table of rows of one kind.
 #[derive(Clone, Copy)]
@@ -19,6 +18,7 @@ pub(crate) enum Table {
 }
 
 impl Table {
+    /// Returns the table's name, to which its file adds `.tsv`.
     pub(crate) fn name(self) -> &'static str {
         match self {
             Table::Compacts => "compacts",
@@ -27,17 +27,6 @@ impl Table {
             Table::Values => "values",
             Table::Command => "command",
             Table::Builder => "builder",
-        }
-    }
-
-    pub(crate) fn file(self) -> &'static str {
-        match self {
-            Table::Compacts => "compacts.tsv",
-            Table::Registries => "registries.tsv",
-            Table::Types => "types.tsv",
-            Table::Values => "values.tsv",
-            Table::Command => "command.tsv",
-            Table::Builder => "builder.tsv",
         }
     }
 

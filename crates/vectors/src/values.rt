@@ -1,19 +1,19 @@
 //! Values: each is fed to a decoder at once and in pieces, read from readers, and shown by every
 //! call that shows values.
 
-use crate::calls::open;
+use crate::columns::{bytes_of, parsed};
 use crate::commands::check_command;
+use crate::registries::{Registries, checked};
 use crate::shown::{check_forms, check_value};
+use crate::way::Way;
+use crate::wrong::{Wrong, check_same, check_text};
 use decode_core::{DecodeFault, DecodeReason, Decoder, Progress, StreamFault};
-use decoder_calls::calls::{Holding, all_of, feed, finish, front_of, held, opening_fault};
 use scale_core::Source;
 use scale_tests::paced::{PacedReader, Then};
 use std::alloc::{AllocError, Global};
+use test_calls::calls;
+use test_calls::calls::{Holding, all_of, feed, finish, front_of, held, opening_fault};
 use value_core::{Limits, Value};
-use vector_tables::columns::{bytes_of, depth_of, number_of, type_of};
-use vector_tables::registries::{Registries, checked};
-use vector_tables::way::Way;
-use vector_tables::wrong::{Wrong, check_same, check_text};
 use widths_core::Checked;
 
 /// The most bytes of a row that is fed in three pieces.
@@ -80,20 +80,29 @@ fn row_of<'a>(alloc: Global, columns: &[&'a str]) -> Result<Row<'a>, Wrong> {
         return Err(Wrong::Column("one of eleven"));
     };
     Ok(Row {
-        ty: type_of(ty)?,
+        ty: parsed(ty, "a type")?,
         limits: Limits {
-            depth: depth_of(depth)?,
-            bytes: number_of(limit)?,
+            depth: parsed(depth, "a depth")?,
+            bytes: parsed(limit, "a number")?,
         },
         bytes: bytes_of(alloc, bytes)?,
         answer: *answer,
         held: Holding {
-            nodes: number_of(nodes)?,
-            texts: number_of(texts)?,
-            taken: number_of(taken)?,
+            nodes: parsed(nodes, "a number")?,
+            texts: parsed(texts, "a number")?,
+            taken: parsed(taken, "a number")?,
         },
         json: *json,
     })
+}
+
+/// Creates a decoder of a value of the row's type.
+fn open<'r>(
+    alloc: Global,
+    checked: &'r Checked,
+    row: &Row<'_>,
+) -> Result<Decoder<'r, Global>, Wrong> {
+    calls::open(alloc, checked, row.ty, row.limits).ok_or(Wrong::Call("Decoder::new"))
 }
 
 /// The answer to the pieces so far, with the total number of bytes used.
@@ -180,7 +189,7 @@ fn check_pieces(
     way: Way,
     pieces: &[&[u8]],
 ) -> Result<(), Wrong> {
-    let mut decoder = open(alloc, checked, row.ty, row.limits)?;
+    let mut decoder = open(alloc, checked, row)?;
     let mut fed = Fed::More(0);
     'pieces: for piece in pieces {
         fed = feed_next(&mut decoder, fed, piece);
@@ -194,7 +203,7 @@ fn check_pieces(
 /// Feeds the bytes one by one, each between two empty pieces. Checks that the second one changes
 /// nothing.
 fn check_singly(alloc: Global, checked: &Checked, row: &Row<'_>) -> Result<(), Wrong> {
-    let mut decoder = open(alloc, checked, row.ty, row.limits)?;
+    let mut decoder = open(alloc, checked, row)?;
     let mut fed = feed_next(&mut decoder, Fed::More(0), b"");
     'bytes: for byte in &row.bytes {
         fed = feed_next(&mut decoder, fed, &[*byte]);
@@ -239,7 +248,7 @@ fn check_fronts(alloc: Global, checked: &Checked, row: &Row<'_>) -> Result<u64, 
     let taken = row.held.taken as usize;
     'fronts: for len in 0..taken {
         let front = row.bytes.get(..len).ok_or(Wrong::Column("long enough"))?;
-        let mut decoder = open(alloc, checked, row.ty, row.limits)?;
+        let mut decoder = open(alloc, checked, row)?;
         let fed = feed_next(&mut decoder, Fed::More(0), front);
         check_same(alloc, Way::Front(len), Fed::More(len as u64), fed)?;
         let cut = DecodeFault {
@@ -305,18 +314,14 @@ fn check_further_byte(alloc: Global, checked: &Checked, row: &Row<'_>) -> Result
     };
     let mut bytes = Vec::from_slice(alloc, value)?;
     bytes.extend_from_slice(&[0])?;
-    let mut decoder = open(alloc, checked, row.ty, row.limits)?;
+    let mut decoder = open(alloc, checked, row)?;
     let fed = feed_next(&mut decoder, Fed::More(0), &bytes);
     check_fed(alloc, way, row, fed, &decoder)?;
     let mut source = Source::new(bytes.as_slice());
     let reported = all_of(alloc, checked, row.ty, row.limits, &mut source).err();
     let at = value.len() as u64;
-    check_same(
-        alloc,
-        way,
-        Some(StreamFault::TrailingBytes { at }),
-        reported,
-    )?;
+    let wanted = Some(StreamFault::TrailingBytes { at });
+    check_same(alloc, way, wanted, reported)?;
     Ok(2)
 }
 
@@ -334,6 +339,35 @@ fn check_unopened(alloc: Global, checked: &Checked, row: &Row<'_>) -> Result<u64
     Ok(2)
 }
 
+/// Checks the row's bytes in every way. Returns the number of ways.
+fn check_ways(
+    alloc: Global,
+    checked: &Checked,
+    row: &Row<'_>,
+    registry: &[u8],
+) -> Result<u64, Wrong> {
+    if let "UnknownType" | "LimitOutOfRange" = row.answer {
+        return check_unopened(alloc, checked, row);
+    }
+    check_pieces(alloc, checked, row, Way::Whole, &[&row.bytes])?;
+    check_singly(alloc, checked, row)?;
+    check_reader(alloc, checked, row, 1)?;
+    check_reader(alloc, checked, row, 4096)?;
+    check_front_of(alloc, checked, row)?;
+    let mut ways = 5u64;
+    for more in [
+        check_two_pieces(alloc, checked, row)?,
+        check_three_pieces(alloc, checked, row)?,
+        check_fronts(alloc, checked, row)?,
+        check_further_byte(alloc, checked, row)?,
+        check_forms(alloc, checked, row)?,
+        check_command(alloc, registry, row)?,
+    ] {
+        ways = ways.saturating_add(more);
+    }
+    Ok(ways)
+}
+
 /// Checks one row. Returns the number of ways in which it was checked.
 pub(crate) fn check_row(
     alloc: Global,
@@ -343,24 +377,5 @@ pub(crate) fn check_row(
     let row = row_of(alloc, columns)?;
     let registry = registries.bytes_of(alloc, columns)?;
     let checked = checked(alloc, &registry)?;
-    if let "UnknownType" | "LimitOutOfRange" = row.answer {
-        return check_unopened(alloc, &checked, &row);
-    }
-    check_pieces(alloc, &checked, &row, Way::Whole, &[&row.bytes])?;
-    check_singly(alloc, &checked, &row)?;
-    check_reader(alloc, &checked, &row, 1)?;
-    check_reader(alloc, &checked, &row, 4096)?;
-    check_front_of(alloc, &checked, &row)?;
-    let mut ways = 5u64;
-    for more in [
-        check_two_pieces(alloc, &checked, &row)?,
-        check_three_pieces(alloc, &checked, &row)?,
-        check_fronts(alloc, &checked, &row)?,
-        check_further_byte(alloc, &checked, &row)?,
-        check_forms(alloc, &checked, &row)?,
-        check_command(alloc, &registry, &row)?,
-    ] {
-        ways = ways.saturating_add(more);
-    }
-    Ok(ways)
+    check_ways(alloc, &checked, &row, &registry)
 }

@@ -5,22 +5,24 @@ use registry_core::{Registry, TypeId, Version, read_metadata, read_registry, wri
 use scale_core::write_compact;
 use std::alloc::{AllocError, Global};
 use std::process::Abort;
-use std::test::Fail;
 use widths_core::{CheckFault, Checked, Class};
+
+/// Returns whether the registry is written as these bytes.
+fn is_written(alloc: Global, registry: &Registry, bytes: &[u8]) -> bool {
+    match write_registry(alloc, registry) {
+        Ok(back) => back.as_slice() == bytes,
+        Err(_) => false,
+    }
+}
 
 /// Reads the registry from all of the bytes, and returns it. Checks its number of types, and that
 /// it is written as the same bytes.
-fn read_whole(
-    rt: &impl Abort,
-    alloc: Global,
-    bytes: &[u8],
-    types: usize,
-) -> Result<Registry, Fail> {
-    let (registry, count) = read_registry(alloc, bytes)?;
-    same(rt, (registry.types().len(), count), (types, bytes.len()));
-    let back = write_registry(alloc, &registry)?;
-    same(rt, back.as_slice() == bytes, true);
-    Ok(registry)
+fn read_whole(rt: &impl Abort, alloc: Global, bytes: &[u8], types: usize) -> Registry {
+    let (registry, count) = read_registry(alloc, bytes).expect(rt, "a registry");
+    same(rt, registry.types().len(), types);
+    same(rt, count, bytes.len());
+    same(rt, is_written(alloc, &registry, bytes), true);
+    registry
 }
 
 /// Reads and checks a registry of this many types. Checks the class of its first type and the
@@ -30,26 +32,29 @@ fn check_registry(
     alloc: Global,
     bytes: &[u8],
     types: usize,
-    wanted: (Class, u32),
-) -> Result<(), Fail> {
-    let registry = read_whole(rt, alloc, bytes, types)?;
-    let Ok(checked) = Checked::new(alloc, registry) else {
-        return Err("no checked registry")?;
-    };
-    let (class, widest) = wanted;
+    (class, widest): (Class, u32),
+) {
+    let registry = read_whole(rt, alloc, bytes, types);
+    let checked = Checked::new(alloc, registry)
+        .ok()
+        .expect(rt, "a checked registry");
     same(rt, checked.class(TypeId(0)), Some(class));
     same(rt, checked.widest(), widest);
-    Ok(())
 }
 
-// The documentation of one type is a text of 3,000,000 letters.
-#[test]
-fn a_long_text_is_read(rt: HostRuntime) -> Result<(), Fail> {
-    let mut bytes = Vec::from_slice(rt.alloc(), b"\x04\x00\x00\x00\x05\x03\x04")?;
+/// Returns a registry of a u8, whose documentation is a text of 3,000,000 letters.
+fn long_text(alloc: Global) -> Result<Vec<u8>, AllocError> {
+    let mut bytes = Vec::from_slice(alloc, b"\x04\x00\x00\x00\x05\x03\x04")?;
     write_compact(&mut bytes, 3_000_000)?;
-    let letters = vec![in rt.alloc(); b'a'; 3_000_000]?;
+    let letters = vec![in alloc; b'a'; 3_000_000]?;
     bytes.extend_from_slice(&letters)?;
-    check_registry(&rt, rt.alloc(), &bytes, 1, (Class::Sized, 0))
+    Ok(bytes)
+}
+
+#[test]
+fn a_long_text_is_read(rt: HostRuntime) {
+    let bytes = long_text(rt.alloc()).expect(&rt, "memory");
+    check_registry(&rt, rt.alloc(), &bytes, 1, (Class::Sized, 0));
 }
 
 /// Returns metadata of version 15 with a registry of `count` types, each a u8.
@@ -63,14 +68,20 @@ fn many_types(alloc: Global, count: u32) -> Result<Vec<u8>, AllocError> {
     Ok(bytes)
 }
 
+/// Checks that all of the bytes are metadata of version 15 with this many types.
+fn check_metadata(rt: &impl Abort, alloc: Global, bytes: &[u8], types: usize) {
+    let (registry, count, version) = read_metadata(alloc, bytes).expect(rt, "metadata");
+    same(rt, registry.types().len(), types);
+    same(rt, count, bytes.len());
+    same(rt, version, Version::V15);
+}
+
 #[test]
-fn many_types_are_read(rt: HostRuntime) -> Result<(), Fail> {
-    let metadata = many_types(rt.alloc(), 200_000)?;
-    let (registry, count, version) = read_metadata(rt.alloc(), &metadata)?;
-    let reported = (registry.types().len(), count, version);
-    same(&rt, reported, (200_000, metadata.len(), Version::V15));
-    let bytes = metadata.get(5..).ok_or("no registry")?;
-    check_registry(&rt, rt.alloc(), bytes, 200_000, (Class::Sized, 0))
+fn many_types_are_read(rt: HostRuntime) {
+    let metadata = many_types(rt.alloc(), 200_000).expect(&rt, "memory");
+    check_metadata(&rt, rt.alloc(), &metadata, 200_000);
+    let bytes = metadata.get(5..).expect(&rt, "a registry");
+    check_registry(&rt, rt.alloc(), bytes, 200_000, (Class::Sized, 0));
 }
 
 /// Returns a registry of a variant with `count` arms without names. Every arm but the first has a
@@ -87,9 +98,9 @@ fn many_arms(alloc: Global, count: u32) -> Result<Vec<u8>, AllocError> {
 }
 
 #[test]
-fn many_arms_are_read(rt: HostRuntime) -> Result<(), Fail> {
-    let bytes = many_arms(rt.alloc(), 100_000)?;
-    check_registry(&rt, rt.alloc(), &bytes, 1, (Class::Sized, 1))
+fn many_arms_are_read(rt: HostRuntime) {
+    let bytes = many_arms(rt.alloc(), 100_000).expect(&rt, "memory");
+    check_registry(&rt, rt.alloc(), &bytes, 1, (Class::Sized, 1));
 }
 
 /// Returns a registry of a composite of `count` fields of the second type, which is a u8.
@@ -104,9 +115,9 @@ pub(crate) fn many_fields(alloc: Global, count: u32) -> Result<Vec<u8>, AllocErr
 }
 
 #[test]
-fn many_fields_are_read(rt: HostRuntime) -> Result<(), Fail> {
-    let bytes = many_fields(rt.alloc(), 500_000)?;
-    check_registry(&rt, rt.alloc(), &bytes, 2, (Class::Sized, 500_000))
+fn many_fields_are_read(rt: HostRuntime) {
+    let bytes = many_fields(rt.alloc(), 500_000).expect(&rt, "memory");
+    check_registry(&rt, rt.alloc(), &bytes, 2, (Class::Sized, 500_000));
 }
 
 /// Returns a registry of 2000 types. Each is a tuple of the type after it, and the last is the
@@ -126,9 +137,9 @@ fn chain_of_tuples(alloc: Global) -> Result<Vec<u8>, AllocError> {
 }
 
 #[test]
-fn a_chain_of_2000_tuples_is_empty(rt: HostRuntime) -> Result<(), Fail> {
-    let bytes = chain_of_tuples(rt.alloc())?;
-    check_registry(&rt, rt.alloc(), &bytes, 2000, (Class::Empty, 1))
+fn a_chain_of_2000_tuples_is_empty(rt: HostRuntime) {
+    let bytes = chain_of_tuples(rt.alloc()).expect(&rt, "memory");
+    check_registry(&rt, rt.alloc(), &bytes, 2000, (Class::Empty, 1));
 }
 
 /// Returns a registry of a sequence of the greatest possible id, after 65,536 types that are a u8.
@@ -143,17 +154,15 @@ fn with_unknown_reference(alloc: Global) -> Result<Vec<u8>, AllocError> {
 }
 
 #[test]
-fn an_unknown_reference_of_the_last_type_is_reported(rt: HostRuntime) -> Result<(), Fail> {
-    let bytes = with_unknown_reference(rt.alloc())?;
-    let registry = read_whole(&rt, rt.alloc(), &bytes, 65_537)?;
-    let Err((fault, registry)) = Checked::new(rt.alloc(), registry) else {
-        return Err("a reference to no type")?;
-    };
+fn an_unknown_reference_of_the_last_type_is_reported(rt: HostRuntime) {
+    let bytes = with_unknown_reference(rt.alloc()).expect(&rt, "memory");
+    let registry = read_whole(&rt, rt.alloc(), &bytes, 65_537);
+    let checked = Checked::new(rt.alloc(), registry);
+    let (fault, registry) = checked.err().expect(&rt, "a reference to no type");
     let unknown = CheckFault::UnknownType {
         from: TypeId(65_536),
         to: TypeId(4_294_967_295),
     };
     same(&rt, fault, unknown);
     same(&rt, registry.types().len(), 65_537);
-    Ok(())
 }

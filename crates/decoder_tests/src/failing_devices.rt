@@ -1,13 +1,12 @@
 //! Devices that fail at each of their calls: what the command reports, and what it has written.
 
 use crate::expect::same;
-use command_runs::jobs::decode;
-use command_runs::ran::{Devices, Failed, NONE, Ran};
 use scale_tests::paced::{PacedReader, PacedWriter, Then};
 use scale_tests::rows::{ROWS, Row};
-use std::alloc::{AllocError, Global};
+use std::alloc::Global;
 use std::process::Abort;
-use std::test::Fail;
+use test_calls::jobs::decode;
+use test_calls::ran::{Devices, Failed, NONE, Ran, wanted};
 
 const REGISTRY: Failed = Failed {
     registry: true,
@@ -20,22 +19,6 @@ const VALUE: Failed = Failed {
 };
 
 const OUT: Failed = Failed { out: true, ..NONE };
-
-/// Returns the result that the command should have for a row if no device fails.
-fn wanted(alloc: Global, row: &Row) -> Result<Ran, AllocError> {
-    if row.refusal.is_empty() {
-        return Ok(Ran {
-            status: 0,
-            out: format!(in alloc; "{}\n", row.json)?.into_bytes(),
-            err: Vec::new(alloc),
-        });
-    }
-    Ok(Ran {
-        status: 1,
-        out: Vec::new(alloc),
-        err: format!(in alloc; "scaleview: value: {}\n", row.refusal)?.into_bytes(),
-    })
-}
 
 /// Checks the status and the outputs of the row's run.
 fn check_answer(rt: &impl Abort, row: &Row, found: &Ran, status: u8, out: &[u8], err: &[u8]) {
@@ -82,27 +65,26 @@ fn check_value_front(
     if failed == VALUE {
         check_answer(rt, row, &ran, 3, b"", b"scaleview: device: value\n");
     } else {
-        same(rt, (row.name, (failed, row.json)), (row.name, (NONE, "")));
+        same(rt, (row.name, failed), (row.name, NONE));
+        same(rt, row.json, "");
         check_answer(rt, row, &ran, wanted.status, &wanted.out, &wanted.err);
     }
 }
 
 /// Checks readers that fail after every front of the row's bytes, from no byte to all.
-fn check_value_fronts(rt: &impl Abort, alloc: Global, row: &Row) -> Result<(), Fail> {
-    let wanted = wanted(alloc, row)?;
+fn check_value_fronts(rt: &impl Abort, alloc: Global, row: &Row) {
+    let wanted = wanted(alloc, row.json, row.refusal).expect(rt, "memory");
     'calls: for call in 0..=row.bytes.len() {
         let (front, _) = row.bytes.split_at(call);
         check_value_front(rt, alloc, row, &wanted, front);
     }
-    Ok(())
 }
 
 #[test]
-fn each_read_of_a_value_may_fail(rt: HostRuntime) -> Result<(), Fail> {
+fn each_read_of_a_value_may_fail(rt: HostRuntime) {
     'rows: for row in &ROWS {
-        check_value_fronts(&rt, rt.alloc(), row)?;
+        check_value_fronts(&rt, rt.alloc(), row);
     }
-    Ok(())
 }
 
 /// Checks a run whose standard output takes `front` and then no more.
@@ -115,20 +97,18 @@ fn check_output(rt: &impl Abort, alloc: Global, row: &Row, front: &[u8], then: T
 }
 
 /// Checks runs whose standard output ends before each byte of what the row's value is shown as.
-fn check_outputs(rt: &impl Abort, alloc: Global, row: &Row) -> Result<(), Fail> {
-    let wanted = wanted(alloc, row)?;
+fn check_outputs(rt: &impl Abort, alloc: Global, row: &Row) {
+    let wanted = wanted(alloc, row.json, row.refusal).expect(rt, "memory");
     'places: for place in 0..wanted.out.len() {
         let (front, _) = wanted.out.split_at(place);
         check_output(rt, alloc, row, front, Then::Fails);
         check_output(rt, alloc, row, front, Then::TakesNothing);
     }
-    Ok(())
 }
 
 #[test]
-fn standard_output_may_end_at_each_byte(rt: HostRuntime) -> Result<(), Fail> {
+fn standard_output_may_end_at_each_byte(rt: HostRuntime) {
     'rows: for row in &ROWS {
-        check_outputs(&rt, rt.alloc(), row)?;
+        check_outputs(&rt, rt.alloc(), row);
     }
-    Ok(())
 }

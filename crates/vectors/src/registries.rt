@@ -8,6 +8,7 @@ use registry_core::{
     Registry, RegistryFault, RegistryReason, Version, read_metadata, read_registry, write_registry,
 };
 use scale_calls::push_type_lines;
+use scale_tests::building;
 use std::alloc::{AllocError, Global};
 use widths_core::{CheckFault, Checked};
 
@@ -126,11 +127,7 @@ fn check_checked(
 }
 
 /// Checks one row. Returns the number of ways in which it was checked.
-///
-/// # Errors
-///
-/// The first answer that differs from the row, or a column that can't be read.
-pub fn check_row(alloc: Global, columns: &[&str]) -> Result<u64, Wrong> {
+pub(crate) fn check_row(alloc: Global, columns: &[&str]) -> Result<u64, Wrong> {
     let [_, prefix, bytes, read, check, lines] = columns else {
         return Err(Wrong::Column("one of six"));
     };
@@ -144,16 +141,11 @@ pub fn check_row(alloc: Global, columns: &[&str]) -> Result<u64, Wrong> {
             return Ok(1);
         }
     };
-    check_text(
-        alloc,
-        Way::ReadRegistry,
-        read,
-        &taken_line(alloc, len, version)?,
-    )?;
+    let line = taken_line(alloc, len, version)?;
+    check_text(alloc, Way::ReadRegistry, read, &line)?;
     let taken = bytes.get(..len).ok_or(Wrong::Column("long enough"))?;
-    let spelling = taken
-        .get(prefix.len()..)
-        .ok_or(Wrong::Column("long enough"))?;
+    let spelling = taken.get(prefix.len()..);
+    let spelling = spelling.ok_or(Wrong::Column("long enough"))?;
     check_written(alloc, &registry, spelling)?;
     check_checked(alloc, registry, spelling, check, lines)?;
     Ok(check_fronts(alloc, prefix, taken)?.saturating_add(3))
@@ -168,15 +160,11 @@ struct Named<'a> {
 
 /// The registries of the table.
 #[derive(Drop)]
-pub struct Registries<'a>(Vec<Named<'a>>);
+pub(crate) struct Registries<'a>(Vec<Named<'a>>);
 
 impl<'a> Registries<'a> {
     /// Reads the names and the digits of a table's rows.
-    ///
-    /// # Errors
-    ///
-    /// `AllocError` if an allocation fails.
-    pub fn new(alloc: Global, text: &'a str) -> Result<Registries<'a>, AllocError> {
+    pub(crate) fn new(alloc: Global, text: &'a str) -> Result<Registries<'a>, AllocError> {
         let mut named = Vec::new(alloc);
         'lines: for line in text.split('\n') {
             if let Some((name, rest)) = line.split_once('\t') {
@@ -188,11 +176,7 @@ impl<'a> Registries<'a> {
     }
 
     /// Returns the bytes of the registry that the second column of a row names.
-    ///
-    /// # Errors
-    ///
-    /// If no row has the name, or its bytes can't be read.
-    pub fn bytes_of(&self, alloc: Global, columns: &[&str]) -> Result<Vec<u8>, Wrong> {
+    pub(crate) fn bytes_of(&self, alloc: Global, columns: &[&str]) -> Result<Vec<u8>, Wrong> {
         let name = columns.get(1).copied().unwrap_or("");
         'registries: for registry in &self.0 {
             if registry.name == name {
@@ -204,16 +188,6 @@ impl<'a> Registries<'a> {
 }
 
 /// Returns the checked registry of these bytes.
-///
-/// # Errors
-///
-/// If they hold no registry, or a type refers to one that doesn't exist.
-pub fn checked(alloc: Global, bytes: &[u8]) -> Result<Checked, Wrong> {
-    let Ok((registry, _)) = read_registry(alloc, bytes) else {
-        return Err(Wrong::Call("read_registry"));
-    };
-    match Checked::new(alloc, registry) {
-        Ok(checked) => Ok(checked),
-        Err(_) => Err(Wrong::Call("Checked::new")),
-    }
+pub(crate) fn checked(alloc: Global, bytes: &[u8]) -> Result<Checked, Wrong> {
+    building::checked(alloc, bytes).ok_or(Wrong::Call("Checked::new"))
 }

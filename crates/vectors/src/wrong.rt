@@ -7,7 +7,7 @@ use std::fmt::{Debug, Display};
 
 /// Why the answer to a row is wrong.
 #[derive(Debug, Drop)]
-pub enum Wrong {
+pub(crate) enum Wrong {
     /// An allocation failed.
     Memory,
     /// A column that cannot be read, with what it should hold.
@@ -40,11 +40,12 @@ impl Display for Wrong {
 }
 
 /// Returns the error of an answer that differs.
-///
-/// # Errors
-///
-/// `AllocError` if an allocation fails.
-pub fn differing(alloc: Global, way: Way, wanted: &str, found: &str) -> Result<Wrong, AllocError> {
+pub(crate) fn differing(
+    alloc: Global,
+    way: Way,
+    wanted: &str,
+    found: &str,
+) -> Result<Wrong, AllocError> {
     Ok(Wrong::Answer {
         way,
         wanted: String::from_str(alloc, wanted)?,
@@ -53,11 +54,7 @@ pub fn differing(alloc: Global, way: Way, wanted: &str, found: &str) -> Result<W
 }
 
 /// Compares two texts.
-///
-/// # Errors
-///
-/// If they differ, or an allocation fails.
-pub fn check_text(alloc: Global, way: Way, wanted: &str, found: &str) -> Result<(), Wrong> {
+pub(crate) fn check_text(alloc: Global, way: Way, wanted: &str, found: &str) -> Result<(), Wrong> {
     if wanted == found {
         Ok(())
     } else {
@@ -66,11 +63,7 @@ pub fn check_text(alloc: Global, way: Way, wanted: &str, found: &str) -> Result<
 }
 
 /// Compares two answers, and formats them if they differ.
-///
-/// # Errors
-///
-/// If they differ, or an allocation fails.
-pub fn check_same<T: Debug + PartialEq + Drop>(
+pub(crate) fn check_same<T: Debug + PartialEq + Drop>(
     alloc: Global,
     way: Way,
     wanted: T,
@@ -85,11 +78,12 @@ pub fn check_same<T: Debug + PartialEq + Drop>(
 }
 
 /// Compares two runs of bytes.
-///
-/// # Errors
-///
-/// If they differ, or an allocation fails.
-pub fn check_bytes(alloc: Global, way: Way, wanted: &[u8], found: &[u8]) -> Result<(), Wrong> {
+pub(crate) fn check_bytes(
+    alloc: Global,
+    way: Way,
+    wanted: &[u8],
+    found: &[u8],
+) -> Result<(), Wrong> {
     if wanted == found {
         return Ok(());
     }

@@ -3,16 +3,15 @@
 use crate::expect::same;
 use scale_core::Sink;
 use scale_tool::{explain, job};
-use std::test::Fail;
 
 #[test]
-fn blanks_are_no_part_of_a_number(rt: HostRuntime) -> Result<(), Fail> {
+fn blanks_are_no_part_of_a_number(rt: HostRuntime) {
     let lines = [
         ["scaleview", "decode", "r", " 3", "v"].as_slice(),
         &["scaleview", "decode", "r", "3", "v", "--depth", " 2"],
     ];
     'lines: for words in lines {
-        let fault = job(rt.alloc(), words).err().ok_or("a fault")?;
+        let fault = job(rt.alloc(), words).err().expect(&rt, "a fault");
         let mut out = Sink::new(Vec::new(rt.alloc()));
         let mut err = Sink::new(Vec::new(rt.alloc()));
         same(&rt, explain(fault, &mut out, &mut err), 2);
@@ -20,5 +19,4 @@ fn blanks_are_no_part_of_a_number(rt: HostRuntime) -> Result<(), Fail> {
         let reported = err.into_inner();
         same(&rt, reported.as_slice(), b"scaleview: usage\n".as_slice());
     }
-    Ok(())
 }

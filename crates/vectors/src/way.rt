@@ -2,7 +2,7 @@
 
 /// The call that is checked on a row's input, and how the input is fed.
 #[derive(Clone, Copy, Debug)]
-pub enum Way {
+pub(crate) enum Way {
     ReadCompact,
     CompactLen,
     PutCompact,

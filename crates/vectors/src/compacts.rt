@@ -7,11 +7,7 @@ use scale_core::{Target, compact_len, put_compact, read_compact, write_compact};
 use std::alloc::{AllocError, Global};
 
 /// Returns the target with this name.
-///
-/// # Errors
-///
-/// If no target has the name.
-pub fn target_of(name: &str) -> Result<Target, Wrong> {
+pub(crate) fn target_of(name: &str) -> Result<Target, Wrong> {
     match name {
         "Unit" => Ok(Target::Unit),
         "U8" => Ok(Target::U8),
@@ -63,11 +59,7 @@ fn check_spelling(alloc: Global, value: u128, bytes: &[u8]) -> Result<(), Wrong>
 
 /// Checks one row: the compact is read as the row says. If it is accepted, it is put and written as
 /// the bytes that were taken. Returns the number of ways in which it was checked.
-///
-/// # Errors
-///
-/// The first answer that differs from the row, or a column that can't be read.
-pub fn check_row(alloc: Global, columns: &[&str]) -> Result<u64, Wrong> {
+pub(crate) fn check_row(alloc: Global, columns: &[&str]) -> Result<u64, Wrong> {
     let [_, target, bytes, answer] = columns else {
         return Err(Wrong::Column("one of four"));
     };

@@ -5,8 +5,6 @@ use registry_core::{
     Arm, Field, Items, Keys, Name, Param, Registry, RegistryFault, RegistryReason, Text, TypeDef,
     TypeId, read_registry,
 };
-use std::alloc::Global;
-use std::test::Fail;
 use token_core::Escapes;
 
 /// The type `Option` with its parameter `T`, which is a u32, and its arms `None` and `Some`.
@@ -16,12 +14,6 @@ const OPTION: &[u8] =
 /// A composite of two bytes, whose names are `b` and `a"`.
 const PAIR: &[u8] =
     b"\x08\x00\x00\x00\x05\x03\x00\x04\x00\x00\x00\x08\x01\x04b\x00\x00\x00\x01\x08a\"\x00\x00\x00\x00";
-
-/// Returns the registry of these bytes.
-fn registry_of(alloc: Global, bytes: &[u8]) -> Result<Registry, RegistryFault> {
-    let (registry, _) = read_registry(alloc, bytes)?;
-    Ok(registry)
-}
 
 /// Returns the only segment of the path, the only parameter and the two arms of the registry's
 /// second type.
@@ -43,17 +35,14 @@ fn parts_of(registry: &Registry) -> Option<(&Text, &Param, &Arm, &Arm)> {
 }
 
 #[test]
-fn the_parts_of_a_variant_are_seen(rt: HostRuntime) -> Result<(), Fail> {
-    let registry = registry_of(rt.alloc(), OPTION)?;
-    let Some((segment, param, none, some)) = parts_of(&registry) else {
-        return Err("other parts")?;
-    };
+fn the_parts_of_a_variant_are_seen(rt: HostRuntime) {
+    let (registry, _) = read_registry(rt.alloc(), OPTION).expect(&rt, "a registry");
+    let (segment, param, none, some) = parts_of(&registry).expect(&rt, "these parts");
     let named = (segment.as_str(), param.name.as_str(), param.ty);
     same(&rt, named, ("Option", "T", Some(TypeId(0))));
     same(&rt, (none.name.as_str(), none.index), ("None", 0));
     same(&rt, (some.name.as_str(), some.index), ("Some", 1));
     same(&rt, (none.fields.len(), some.fields.len()), (0, 1));
-    Ok(())
 }
 
 /// Returns the names of a field and of its type.
@@ -70,17 +59,14 @@ fn names_of(field: &Field) -> (Option<&str>, Option<&str>) {
 }
 
 #[test]
-fn the_field_of_an_arm_is_seen(rt: HostRuntime) -> Result<(), Fail> {
-    let registry = registry_of(rt.alloc(), OPTION)?;
-    let Some((_, _, _, some)) = parts_of(&registry) else {
-        return Err("other parts")?;
-    };
+fn the_field_of_an_arm_is_seen(rt: HostRuntime) {
+    let (registry, _) = read_registry(rt.alloc(), OPTION).expect(&rt, "a registry");
+    let (_, _, _, some) = parts_of(&registry).expect(&rt, "these parts");
     let [field] = some.fields.as_slice() else {
-        return Err("not one field")?;
+        panic!(rt; "not one field");
     };
     same(&rt, names_of(field), (None, Some("T")));
     same(&rt, field.ty, TypeId(0));
-    Ok(())
 }
 
 /// Returns the names of the two fields of the registry's second type, and the order of the names.
@@ -101,37 +87,32 @@ fn names_of_pair(registry: &Registry) -> Option<(&Name, &Name, &[u32])> {
 }
 
 #[test]
-fn the_order_and_the_escapes_of_names_are_seen(rt: HostRuntime) -> Result<(), Fail> {
-    let registry = registry_of(rt.alloc(), PAIR)?;
-    let Some((first, second, order)) = names_of_pair(&registry) else {
-        return Err("other parts")?;
-    };
+fn the_order_and_the_escapes_of_names_are_seen(rt: HostRuntime) {
+    let (registry, _) = read_registry(rt.alloc(), PAIR).expect(&rt, "a registry");
+    let (first, second, order) = names_of_pair(&registry).expect(&rt, "these parts");
     same(&rt, (first.as_str(), second.as_str()), ("b", "a\""));
     same(&rt, order, [1, 0].as_slice());
     same(&rt, matches!(first.escapes(), Escapes::None), true);
     same(&rt, matches!(second.escapes(), Escapes::None), false);
-    Ok(())
 }
 
 #[test]
-fn texts_and_lists_keep_what_they_were_made_of(rt: HostRuntime) -> Result<(), Fail> {
-    let text = Text::from_string(String::from_str(rt.alloc(), "caf\u{e9}")?);
+fn texts_and_lists_keep_what_they_were_made_of(rt: HostRuntime) {
+    let text = Text::from_string(String::from_str(rt.alloc(), "caf\u{e9}").expect(&rt, "memory"));
     same(&rt, (text.as_str(), text.len()), ("caf\u{e9}", 5));
     same(&rt, text.into_string().as_str(), "caf\u{e9}");
-    let items = Items::from_vec([3, 1, 2].to_vec(rt.alloc())?);
+    let items = Items::from_vec([3, 1, 2].to_vec(rt.alloc()).expect(&rt, "memory"));
     same(&rt, (items.len(), items.is_empty()), (3, false));
     same(&rt, items.into_vec().as_slice(), [3, 1, 2].as_slice());
-    Ok(())
 }
 
 // The other reasons are printed by the rows of `registries.tsv`.
 #[test]
-fn a_failed_allocation_is_printed_by_its_name(rt: HostRuntime) -> Result<(), Fail> {
+fn a_failed_allocation_is_printed_by_its_name(rt: HostRuntime) {
     let fault = RegistryFault {
         reason: RegistryReason::OutOfMemory,
         at: 7,
     };
-    let printed = format!(in rt.alloc(); "{fault}")?;
+    let printed = format!(in rt.alloc(); "{fault}").expect(&rt, "memory");
     same(&rt, printed.as_str(), "OutOfMemory at 7");
-    Ok(())
 }

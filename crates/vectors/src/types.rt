@@ -1,7 +1,7 @@
 //! The answers of a checked registry about its types: targets of compacts, and arms by their
 //! indexes.
 
-use crate::columns::{is_nothing, number_of};
+use crate::columns::{is_nothing, parsed};
 use crate::compacts::target_of;
 use crate::registries::{Registries, checked};
 use crate::way::Way;
@@ -27,9 +27,9 @@ fn arm_of(word: &str) -> Result<NamedArm<'_>, Wrong> {
     let (index, rest) = rest.split_once('=').ok_or(Wrong::Column(wrong))?;
     let (position, name) = rest.split_once(' ').ok_or(Wrong::Column(wrong))?;
     Ok(NamedArm {
-        ty: number_of(ty)?,
-        index: number_of(index)?,
-        position: number_of(position)?,
+        ty: parsed(ty, "a number")?,
+        index: parsed(index, "a number")?,
+        position: parsed(position, "a number")?,
         name,
     })
 }
@@ -63,21 +63,13 @@ fn check_targets(alloc: Global, checked: &Checked, column: &str) -> Result<u64, 
     if !is_nothing(column) {
         'targets: for word in column.split(' ') {
             let wanted = known_target(word)?;
-            check_same(
-                alloc,
-                Way::CompactTarget(id),
-                wanted,
-                checked.compact_target(TypeId(id)),
-            )?;
+            let found = checked.compact_target(TypeId(id));
+            check_same(alloc, Way::CompactTarget(id), wanted, found)?;
             id = id.saturating_add(1);
         }
     }
-    check_same(
-        alloc,
-        Way::CompactTarget(id),
-        None,
-        checked.compact_target(TypeId(id)),
-    )?;
+    let found = checked.compact_target(TypeId(id));
+    check_same(alloc, Way::CompactTarget(id), None, found)?;
     Ok(u64::from(id).saturating_add(1))
 }
 
@@ -103,11 +95,7 @@ fn check_arms(
 }
 
 /// Checks one row. Returns the number of ways in which it was checked.
-///
-/// # Errors
-///
-/// The first answer that differs from the row, or a column that can't be read.
-pub fn check_row(
+pub(crate) fn check_row(
     alloc: Global,
     registries: &Registries<'_>,
     columns: &[&str],

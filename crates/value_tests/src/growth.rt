@@ -2,13 +2,7 @@
 
 use crate::expect::same;
 use growth_core::{make_room, make_room_ahead};
-use std::alloc::{AllocError, Global};
 use std::test::Fail;
-
-/// Returns a full vector of this length.
-fn full(alloc: Global, len: usize) -> Result<Vec<u8>, AllocError> {
-    vec![in alloc; 7; len]
-}
 
 // Each row: the length, how many elements are needed, how many are expected, and the capacity.
 #[test]
@@ -27,7 +21,7 @@ fn a_full_vector_grows_in_proportion(rt: HostRuntime) -> Result<(), Fail> {
         (40, 1, Some(2_147_483_648), 160),
     ];
     'rows: for (len, more, expected, capacity) in rows {
-        let mut list = full(rt.alloc(), len)?;
+        let mut list = vec![in rt.alloc(); 7u8; len]?;
         make_room(&mut list, more, expected)?;
         same(&rt, (list.len(), list.capacity()), (len, capacity));
     }
@@ -39,7 +33,7 @@ fn a_full_vector_grows_in_proportion(rt: HostRuntime) -> Result<(), Fail> {
 fn a_vector_grows_ahead_of_what_is_expected(rt: HostRuntime) -> Result<(), Fail> {
     let rows = [(40, 0, 40), (40, 20, 60), (40, 121, 160), (0, 100, 16)];
     'rows: for (len, expected, capacity) in rows {
-        let mut list = full(rt.alloc(), len)?;
+        let mut list = vec![in rt.alloc(); 7u8; len]?;
         make_room_ahead(&mut list, expected)?;
         same(&rt, (len, list.capacity()), (len, capacity));
     }

@@ -122,25 +122,32 @@ fn cut_at(at: u64) -> Option<RegistryFault> {
     })
 }
 
+/// Returns these bytes, one part after the other.
+fn joined(alloc: Global, front: &[u8], rest: &[u8]) -> Result<Vec<u8>, AllocError> {
+    let mut bytes = Vec::from_slice(alloc, front)?;
+    bytes.extend_from_slice(rest)?;
+    Ok(bytes)
+}
+
 /// Checks that a registry that ends after the claimed length is rejected at its end, and metadata
 /// of it too.
-fn check_claim(
-    rt: &impl Abort,
-    alloc: Global,
-    name: &str,
-    front: &[u8],
-    length: &[u8],
-) -> Result<(), AllocError> {
-    let mut bytes = Vec::from_slice(alloc, front)?;
-    bytes.extend_from_slice(length)?;
+fn check_claim(rt: &impl Abort, alloc: Global, name: &str, front: &[u8], length: &[u8]) {
+    let bytes = joined(alloc, front, length).expect(rt, "memory");
     let end = bytes.len() as u64;
     let reported = read_registry(alloc, &bytes).err();
     same(rt, (name, reported), (name, cut_at(end)));
-    let mut metadata = Vec::from_slice(alloc, b"meta\x0e")?;
-    metadata.extend_from_slice(&bytes)?;
+    let metadata = joined(alloc, b"meta\x0e", &bytes).expect(rt, "memory");
     let reported = read_metadata(alloc, &metadata).err();
     same(rt, (name, reported), (name, cut_at(end.saturating_add(5))));
-    Ok(())
+}
+
+/// Claims each of the lengths at each of the places.
+fn check_claims(rt: &impl Abort, alloc: Global, places: &[(&str, &[u8])], lengths: &[&[u8]]) {
+    'places: for (name, front) in places {
+        'lengths: for length in lengths {
+            check_claim(rt, alloc, name, front, length);
+        }
+    }
 }
 
 // A reader that allocates for a claimed length either succeeds, which the measurement shows, or
@@ -148,11 +155,7 @@ fn check_claim(
 #[test]
 fn claimed_lengths_reserve_nothing(rt: HostRuntime) -> Result<(), Fail> {
     let before = measured(&rt)?;
-    'places: for (name, front) in PLACES {
-        'lengths: for length in LENGTHS {
-            check_claim(&rt, rt.alloc(), name, front, length)?;
-        }
-    }
+    check_claims(&rt, rt.alloc(), &PLACES, &LENGTHS);
     let after = measured(&rt)?;
     check_growth(&rt, before, after, 0, 1024);
     Ok(())

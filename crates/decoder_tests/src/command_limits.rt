@@ -1,11 +1,11 @@
 //! The command's engine at its limit on the bytes of a value.
 
 use crate::expect::same;
-use command_runs::jobs::decode;
 use scale_core::{Sink, Source};
 use scale_tests::paced::LetterReader;
 use scale_tests::registries::TEXT;
 use scale_tool::run;
+use test_calls::jobs::decode;
 
 /// The encoded length of the longest text within the limit, which includes the length's four bytes.
 const LONGEST: &[u8] = b"\xf2\xff\xff\x03";

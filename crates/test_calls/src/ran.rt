@@ -5,7 +5,7 @@ use crate::jobs::served;
 use scale_core::{Sink, Source};
 use scale_tests::paced::{PacedReader, PacedWriter, Then};
 use scale_tool::{Job, run};
-use std::alloc::Global;
+use std::alloc::{AllocError, Global};
 
 /// The result of a run: its status, and what it wrote to standard output and to standard error.
 #[derive(Drop)]
@@ -13,6 +13,27 @@ pub struct Ran {
     pub status: u8,
     pub out: Vec<u8>,
     pub err: Vec<u8>,
+}
+
+/// Returns the result of the command if no device fails: for a value its JSON, and for a rejected
+/// one the error as it is printed.
+///
+/// # Errors
+///
+/// `AllocError` if an allocation fails.
+pub fn wanted(alloc: Global, json: &str, refusal: &str) -> Result<Ran, AllocError> {
+    if refusal.is_empty() {
+        return Ok(Ran {
+            status: 0,
+            out: format!(in alloc; "{json}\n")?.into_bytes(),
+            err: Vec::new(alloc),
+        });
+    }
+    Ok(Ran {
+        status: 1,
+        out: Vec::new(alloc),
+        err: format!(in alloc; "scaleview: value: {refusal}\n")?.into_bytes(),
+    })
 }
 
 /// Which devices have failed.

@@ -7,7 +7,6 @@ use registry_core::TypeId;
 use scale_core::{Sink, Source};
 use std::alloc::{AllocError, Allocator, Global};
 use std::io::Read;
-use std::test::Fail;
 use value_core::{Limits, Value};
 use widths_core::Checked;
 
@@ -21,21 +20,15 @@ pub struct Holding {
     pub taken: u64,
 }
 
-/// Creates a decoder of the type, within these limits.
-///
-/// # Errors
-///
-/// Those of [`Decoder::new`].
+/// Creates a decoder of the type, within these limits. Returns `None` for an error of
+/// [`Decoder::new`].
 pub fn open<'r, A: Allocator + Clone>(
     memory: A,
     checked: &'r Checked,
     ty: u32,
     limits: Limits,
-) -> Result<Decoder<'r, A>, Fail> {
-    match Decoder::new(memory, checked, TypeId(ty), limits) {
-        Ok(decoder) => Ok(decoder),
-        Err(_) => Err("no decoder")?,
-    }
+) -> Option<Decoder<'r, A>> {
+    Decoder::new(memory, checked, TypeId(ty), limits).ok()
 }
 
 /// Feeds the piece, and returns the progress of the value.
@@ -134,15 +127,11 @@ pub fn shown_tree<A: Allocator>(alloc: Global, value: &Value<'_, A>) -> Result<S
     tree.to_string(alloc)
 }
 
-/// Returns the JSON of a value, as it is printed.
-///
-/// # Errors
-///
-/// If the value cannot be printed.
-pub fn printed<A: Allocator>(alloc: Global, value: &Value<'_, A>) -> Result<Vec<u8>, Fail> {
+/// Returns the JSON of a value, as it is printed, or `None` if it is not printed.
+pub fn printed<A: Allocator>(alloc: Global, value: &Value<'_, A>) -> Option<Vec<u8>> {
     let mut sink = Sink::new(Vec::new(alloc));
     match print(alloc, value, &mut sink) {
-        Ok(()) => Ok(sink.into_inner()),
-        Err(_) => Err("a value is not printed")?,
+        Ok(()) if !sink.failed() => Some(sink.into_inner()),
+        _ => None,
     }
 }
