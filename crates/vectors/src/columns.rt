@@ -14,10 +14,8 @@ pub(crate) fn bytes_of(alloc: Global, column: &str) -> Result<Vec<u8>, Wrong> {
     if is_nothing(column) {
         return Ok(Vec::new(alloc));
     }
-    match hex::decode(alloc, column) {
-        Ok(bytes) => Ok(bytes),
-        Err(_) => Err(Wrong::Column("hexadecimal digits")),
-    }
+    let bytes = hex::decode(alloc, column).ok();
+    bytes.ok_or(Wrong::Column("hexadecimal digits"))
 }
 
 /// Reads a number or a boolean, which is described as `wanted` if the column spells none.

@@ -185,9 +185,10 @@ impl<'a> Registries<'a> {
         }
         Err(Wrong::Column("a registry's name"))
     }
-}
 
-/// Returns the checked registry of these bytes.
-pub(crate) fn checked(alloc: Global, bytes: &[u8]) -> Result<Checked, Wrong> {
-    building::checked(alloc, bytes).ok_or(Wrong::Call("Checked::new"))
+    /// Returns the checked registry that the second column of a row names.
+    pub(crate) fn checked(&self, alloc: Global, columns: &[&str]) -> Result<Checked, Wrong> {
+        let bytes = self.bytes_of(alloc, columns)?;
+        building::checked(alloc, &bytes).ok_or(Wrong::Call("Checked::new"))
+    }
 }

@@ -3,7 +3,7 @@
 
 use crate::columns::{bytes_of, parsed};
 use crate::commands::check_command;
-use crate::registries::{Registries, checked};
+use crate::registries::Registries;
 use crate::shown::{check_forms, check_value};
 use crate::way::Way;
 use crate::wrong::{Wrong, check_same, check_text};
@@ -11,8 +11,7 @@ use decode_core::{DecodeFault, DecodeReason, Decoder, Progress, StreamFault};
 use scale_core::Source;
 use scale_tests::paced::{PacedReader, Then};
 use std::alloc::{AllocError, Global};
-use test_calls::calls;
-use test_calls::calls::{Holding, all_of, feed, finish, front_of, held, opening_fault};
+use test_calls::calls::{Holding, all_of, feed, finish, front_of, held, open, opening_fault};
 use value_core::{Limits, Value};
 use widths_core::Checked;
 
@@ -97,12 +96,12 @@ fn row_of<'a>(alloc: Global, columns: &[&'a str]) -> Result<Row<'a>, Wrong> {
 }
 
 /// Creates a decoder of a value of the row's type.
-fn open<'r>(
+fn decoder_of<'r>(
     alloc: Global,
     checked: &'r Checked,
     row: &Row<'_>,
 ) -> Result<Decoder<'r, Global>, Wrong> {
-    calls::open(alloc, checked, row.ty, row.limits).ok_or(Wrong::Call("Decoder::new"))
+    open(alloc, checked, row.ty, row.limits).ok_or(Wrong::Call("Decoder::new"))
 }
 
 /// The answer to the pieces so far, with the total number of bytes used.
@@ -189,7 +188,7 @@ fn check_pieces(
     way: Way,
     pieces: &[&[u8]],
 ) -> Result<(), Wrong> {
-    let mut decoder = open(alloc, checked, row)?;
+    let mut decoder = decoder_of(alloc, checked, row)?;
     let mut fed = Fed::More(0);
     'pieces: for piece in pieces {
         fed = feed_next(&mut decoder, fed, piece);
@@ -201,15 +200,24 @@ fn check_pieces(
 }
 
 /// Feeds the bytes one by one, each between two empty pieces. Checks that the second one changes
-/// nothing.
-fn check_singly(alloc: Global, checked: &Checked, row: &Row<'_>) -> Result<(), Wrong> {
-    let mut decoder = open(alloc, checked, row)?;
-    let mut fed = feed_next(&mut decoder, Fed::More(0), b"");
-    'bytes: for byte in &row.bytes {
-        fed = feed_next(&mut decoder, fed, &[*byte]);
-        let again = feed_next(&mut decoder, fed, b"");
-        check_same(alloc, Way::Singly, fed, again)?;
+/// nothing, and returns the answer.
+fn feed_singly(
+    alloc: Global,
+    decoder: &mut Decoder<'_, Global>,
+    bytes: &[u8],
+) -> Result<Fed, Wrong> {
+    let mut fed = feed_next(decoder, Fed::More(0), b"");
+    'bytes: for byte in bytes {
+        fed = feed_next(decoder, fed, &[*byte]);
+        check_same(alloc, Way::Singly, fed, feed_next(decoder, fed, b""))?;
     }
+    Ok(fed)
+}
+
+/// Feeds the bytes one by one, and checks the answer.
+fn check_singly(alloc: Global, checked: &Checked, row: &Row<'_>) -> Result<(), Wrong> {
+    let mut decoder = decoder_of(alloc, checked, row)?;
+    let fed = feed_singly(alloc, &mut decoder, &row.bytes)?;
     check_fed(alloc, Way::Singly, row, fed, &decoder)?;
     check_finished(alloc, Way::Singly, row, finish(decoder))
 }
@@ -248,7 +256,7 @@ fn check_fronts(alloc: Global, checked: &Checked, row: &Row<'_>) -> Result<u64, 
     let taken = row.held.taken as usize;
     'fronts: for len in 0..taken {
         let front = row.bytes.get(..len).ok_or(Wrong::Column("long enough"))?;
-        let mut decoder = open(alloc, checked, row)?;
+        let mut decoder = decoder_of(alloc, checked, row)?;
         let fed = feed_next(&mut decoder, Fed::More(0), front);
         check_same(alloc, Way::Front(len), Fed::More(len as u64), fed)?;
         let cut = DecodeFault {
@@ -314,7 +322,7 @@ fn check_further_byte(alloc: Global, checked: &Checked, row: &Row<'_>) -> Result
     };
     let mut bytes = Vec::from_slice(alloc, value)?;
     bytes.extend_from_slice(&[0])?;
-    let mut decoder = open(alloc, checked, row)?;
+    let mut decoder = decoder_of(alloc, checked, row)?;
     let fed = feed_next(&mut decoder, Fed::More(0), &bytes);
     check_fed(alloc, way, row, fed, &decoder)?;
     let mut source = Source::new(bytes.as_slice());
@@ -376,6 +384,6 @@ pub(crate) fn check_row(
 ) -> Result<u64, Wrong> {
     let row = row_of(alloc, columns)?;
     let registry = registries.bytes_of(alloc, columns)?;
-    let checked = checked(alloc, &registry)?;
+    let checked = registries.checked(alloc, columns)?;
     check_ways(alloc, &checked, &row, &registry)
 }
