@@ -1,6 +1,5 @@
 -- What one turn of a decoder does to what it holds. For each function, where its proof begins:
 --   feed, whole_turns, repeat, fields_turns: Calls, and Moving for a turn after others
---   carried_turn, whole_cut: Cuts
 --   whole_single, whole_element, whole_leaf: WholeLeaves; fields_turns also: Wrapping
 --   whole_own, whole_bare, bare_turn, own_turn, cut_turn: TurnReports, by the kind in FormSplits
 --   byte_array_turn, whole_byte_array: ByteArrays
@@ -28,5 +27,4 @@ pub mod Wrapping
 pub mod Endings
 pub mod Moving
 pub mod Calls
-pub mod Cuts
 pub mod Sound

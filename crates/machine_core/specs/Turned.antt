@@ -124,13 +124,6 @@ StandsAfter (stop.Refused held reported_reason at len) before new = Unit {0}
 StandsAfter stop.OutOfMemory before new = Unit {0}
 StandsAfter s before new = new ≡ before
 
--- what a turn does on a node that is split across pieces, if this piece may complete it: it adds
--- the node, opens the run that is next, or changes nothing
-abbrev pub CutReports : Running → Running → List ℕ → Tried → Type 0
-CutReports old new piece (tried.Added n) = StepReports old new piece (Ok n)
-CutReports old new piece tried.Untouched = new ≡ old
-CutReports old new piece tried.OutOfMemory = WantsMemory old piece × (new ≡ old)
-
 -- nothing is carried, and no run is open
 abbrev pub IsReady : Running → Type 0
 IsReady s = (s.carry ≡ []) × (s.built.run ≡ None)

@@ -10,7 +10,7 @@ ghost use Rattle.form_core.specs.NodeForms.{form_of_bytes};
 ghost use Rattle.form_core.specs.Needs.{IsBare};
 ghost use Rattle.machine_core.specs.NodeAdds.{IsWholeLeaf};
 ghost use Rattle.machine_core.specs.Running.{IsCarry};
-ghost use Rattle.machine_core.specs.Turned.{Awaits, CutReports, GoesOn};
+ghost use Rattle.machine_core.specs.Turned.{Awaits, GoesOn};
 ghost use Rattle.machine_core.specs.Turned.{HasParts, WholeReports, WholeTurnsReport};
 
 use crate::general_turn::take_node;
@@ -26,37 +26,6 @@ use types_core::Primitive;
 use value_core::{Form, Leaf, Next, RunKind};
 
 impl<'r, A: Allocator> Partial<'r, A> {
-    /// Takes a turn on a node that pieces cut, if this one has the bytes that are missing and they
-    /// are not rejected.
-    #[inline(always)]
-    pub(crate) fn whole_cut(&mut self, form: BytesForm, piece: &[u8]) -> Tried
-        requires next { Awaits self.old (form_of_bytes form) }
-        requires carries { 1 ≤ length self.old.carry }
-        ensures { CutReports self.old self.new piece.now result }
-    {
-        let held = self.carry.as_slice().len();
-        let len = need(form, self.carry.as_slice()[0]);
-        if held + piece.len() < len {
-            return Tried::Untouched;
-        }
-        let count = self.carry.fill(len, piece);
-        let own = self.carry.as_slice();
-        match take_node(&mut self.builder, form, own) {
-            Ok(()) => {
-                self.carry.clear();
-                Tried::Added(count)
-            }
-            Err(NodeFault::Refused(..)) => {
-                self.carry.truncate(held);
-                Tried::Untouched
-            }
-            Err(NodeFault::OutOfMemory) => {
-                self.carry.truncate(held);
-                Tried::OutOfMemory
-            }
-        }
-    }
-
     /// Takes a turn on a variant or a sequence, if the piece has its own bytes and they are not
     /// rejected.
     #[inline(always)]

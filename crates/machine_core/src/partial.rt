@@ -1,6 +1,6 @@
 //! A value in progress.
 
-ghost use Rattle.std.specs.Prelude.{ℕ, List, true, ◌≡◌, ◌<◌, []};
+ghost use Rattle.std.specs.Prelude.{ℕ, List, true, ◌≡◌, []};
 ghost use Rattle.std.specs.Prelude.{false, None, IfSome};
 ghost use Rattle.machine_core.specs.Running.{IsFresh};
 ghost use Rattle.value_core.specs.Built.{finished};

@@ -109,17 +109,6 @@ turns_with b x d piece from to n read last w reports kept whole = record {
   whole = whole;
 }
 
--- one turn of the other kind, and no other before it
-pub first_turn : (a d : Running) (piece : List ℕ) (from to : ℕ) (last : Turned) →
-    to ≡ from + 1 → IsSound a → StepReports a d piece last → KeepsTurns a d last →
-    (is_complete a.built ≡ true → last ≡ Err stop.Finished) →
-    TurnsReport a d piece from to 0 last
-unfolding no_whole one_turn
-first_turn a d piece from to last is sound reports kept finished =
-    turns_with a a d piece from to 0 tried.Untouched last
-    (no_whole a piece from to is sound) reports
-    kept (λ w. (refl, refl, finished w))
-
 -- where the last of such turns added a node, it went on
 pub whole_added : (b d : Running) (piece : List ℕ) (at from to n k : ℕ) (last : Tried) →
     last ≡ tried.Added k →
@@ -387,3 +376,18 @@ tells_wants a b piece at start from to c is all wants sound begun = record {
   whole = λ w. absurd (begun (stays_whole a b at c.whole w));
   counts = (omega (arith, is, c.each), omega (arith, is, c.few));
 }
+
+-- the turns of a call that has taken none
+start_so_far : (a : Running) (piece : List ℕ) (from : ℕ) → CallSoFar a a piece 0 from from
+start_so_far a piece from = record {
+  inside = omega arith;
+  moves = moves_none a;
+  each = omega arith;
+  few = omega arith;
+  whole = λ w. (refl, refl);
+}
+
+-- where nothing changed it has still taken none
+pub left_so_far : (a d : Running) (piece : List ℕ) (from : ℕ) → d ≡ a →
+    CallSoFar a d piece 0 from from
+left_so_far a d piece from same = rw same (start_so_far a piece from)

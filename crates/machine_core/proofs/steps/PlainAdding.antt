@@ -12,10 +12,10 @@ use Rattle.widths_core.specs.Layouts.{Layout, Plain, layout}
 use Rattle.widths_core.specs.Layouts as layout
 use Rattle.grammar_core.specs.Grammar.{Val}
 use Rattle.grammar_core.specs.Parts.{Part}
-use Rattle.grammar_core.specs.Preorder.{Head, head_of, tree_with}
+use Rattle.grammar_core.specs.Preorder.{Head, head_of}
 use Rattle.grammar_core.specs.Preorder as head
 use Rattle.grammar_core.specs.Reading.{Refusal, basic, layout_at, leaf_at, value_at}
-use Rattle.grammar_core.specs.Tree.{Tree, none}
+use Rattle.grammar_core.specs.Tree.{Tree}
 use Rattle.grammar_core.specs.Tree as tree
 use Rattle.grammar_core.specs.declared.form.Next.TheVariants as next
 use Rattle.grammar_core.proofs.Sound.{value_takes}

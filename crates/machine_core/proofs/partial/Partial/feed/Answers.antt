@@ -1,22 +1,16 @@
 use Rattle.std.proofs.Common.{◌+◌, ◌-◌, length, take, drop, refl}
 use Rattle.machine_core.specs.declared.turned.Stopped.TheVariants as stop
-use Rattle.machine_core.proofs.steps.Calls.{call_nearer, call_on, tells_stopped}
+use Rattle.machine_core.proofs.steps.Calls.{call_nearer, call_on, left_so_far, tells_stopped}
 use Rattle.machine_core.proofs.steps.Calls.{tells_wants, whole_added, whole_left, whole_short}
 use Rattle.machine_core.proofs.steps.Moving.{wants_goes_on}
-use Rattle.machine_core.proofs.steps.Cuts.{left_so_far}
-use Rattle.machine_core.proofs.partial.Partial.feed.Goals.{else-not-is_empty}
-use Rattle.machine_core.proofs.partial.Partial.feed.Goals.{then-not-is_empty+in-Ok}
 use Rattle.machine_core.proofs.partial.Partial.feed.Goals as goal
 use Rattle.std.specs.Prelude.{Err, Ok}
 
 pub turns-init : goal.turns-init
 turns-init g c = record {
   piece = refl;
-  so_far = elim c.if-not-is_empty.branch [
-    | then-not-is_empty+in-Ok w ↦ rw (w.self-is, w.turns-is, w.at-is) w.in-Ok.ensures.ok
-    | else-not-is_empty w ↦ rw (w.self-is, w.turns-is, w.at-is)
-        (left_so_far c.args.self.now c.args.self.now c.args.piece.now c.args.turns.now.so_far refl)
-  ];
+  so_far = left_so_far c.args.self.now c.args.self.now c.args.piece.now c.args.turns.now.so_far
+      refl;
 }
 
 pub turns-smaller-in-Added : goal.turns-smaller-in-Added
@@ -82,8 +76,8 @@ returns-then-wants g c =
 pub turns-smaller : goal.turns-smaller
 turns-smaller g c =
     let w = c.whole_turns-before in
-    let k = c.in-Ok-turn.count in
-    let t = c.in-Ok-turn.ensures in
+    let k = c.in-Ok.count in
+    let t = c.in-Ok.ensures in
     call_nearer c.turns.self c.turn.new.self c.args.piece.now c.turns.at c.turns.turns.so_far
     w.new.turns.so_far w.result.0 k
     (whole_left c.turns.self w.new.self c.turn.new.self c.args.piece.now c.turns.at
@@ -93,8 +87,8 @@ turns-smaller g c =
 pub turns-preserved : goal.turns-preserved
 turns-preserved g c =
     let w = c.whole_turns-before in
-    let k = c.in-Ok-turn.count in
-    let t = c.in-Ok-turn.ensures in
+    let k = c.in-Ok.count in
+    let t = c.in-Ok.ensures in
     record {
       piece = refl;
       so_far = call_on c.args.self.now c.turns.self c.turn.new.self c.args.piece.now c.turns.at

@@ -2,8 +2,7 @@ use Rattle.std.proofs.Common.{◌+◌, ◌≤◌, drop, refl, arith, rules, subs
 use Rattle.machine_core.specs.Turned.{CallSoFar, WholeTurnsReport, left_to_do}
 use Rattle.machine_core.specs.declared.turned.Tried.{Tried}
 use Rattle.machine_core.proofs.steps.Calls.{call_nearer, call_on, stays_ready, turns_after}
-use Rattle.machine_core.proofs.steps.Calls.{turns_end, whole_added}
-use Rattle.machine_core.proofs.steps.Cuts.{left_so_far}
+use Rattle.machine_core.proofs.steps.Calls.{left_so_far, turns_end, whole_added}
 use Rattle.machine_core.proofs.partial.Partial.whole_turns.Goals.{else-is_empty}
 use Rattle.machine_core.proofs.partial.Partial.whole_turns.Goals.{}
 use Rattle.machine_core.proofs.partial.Partial.whole_turns.Goals.{then-is_empty+then-not-is_run_open+in_default}
