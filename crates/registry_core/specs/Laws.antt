@@ -7,11 +7,11 @@ use Rattle.types_core.specs.declared.type_info.TypeInfo.{TypeInfo}
 use Rattle.registry_core.specs.declared.version.Version.{Version}
 use Rattle.registry_core.specs.Spelling.{metadata}
 use Rattle.registry_core.specs.Reading.{Reader}
-use Rattle.types_core.specs.Fits.{FitsRegistry}
+use Rattle.registry_core.specs.AsRead.{ReadRegistry}
 
 -- the part of metadata that is read: a version, and the registry after it
 abbrev pub FitsMetadata : List TypeInfo × Version → Type 0
-FitsMetadata m = FitsRegistry m.0
+FitsMetadata m = ReadRegistry m.0
 
 abbrev pub metadata_of : List TypeInfo × Version → List ℕ
 metadata_of m = metadata m.1 m.0

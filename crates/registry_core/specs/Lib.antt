@@ -1,9 +1,10 @@
 pub mod Answers
+pub mod AsRead
 pub mod Bytes
+pub mod Examples
 pub mod Gives
 pub mod Laws
+pub mod Names
 pub mod Reading
-pub mod Examples
 pub mod Spelling
 pub mod Splits
-pub mod Names

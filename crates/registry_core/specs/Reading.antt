@@ -19,8 +19,8 @@ use Rattle.registry_core.specs.declared.version.Version.{Version}
 use Rattle.types_core.specs.Bytes.{primitives}
 use Rattle.registry_core.specs.Bytes.{magic, version_of}
 
--- why a length, an id or a text is rejected, as a reason of the registry; the last two don't occur,
--- by the contracts of `read_compact` and `read_text`
+-- why a length, an id or a text is rejected, as a reason of the registry; the last three don't
+-- occur, by the contracts of `read_compact` and `read_text`
 abbrev pub registry_reason_of : Reason → RegistryReason
 registry_reason_of scale.Truncated = registry.Truncated
 registry_reason_of scale.BadUtf8 = registry.BadUtf8
@@ -28,6 +28,7 @@ registry_reason_of scale.CompactNotShortest = registry.CompactNotShortest
 registry_reason_of scale.CompactTooLarge = registry.CompactTooLarge
 registry_reason_of scale.BadBool = registry.BadOption
 registry_reason_of scale.BadChar = registry.BadUtf8
+registry_reason_of scale.UnusedBits = registry.BadUtf8
 
 abbrev pub lifted : {X : Type 0} → Read Reason X → Read RegistryReason X
 lifted (Ok x) = Ok x
@@ -135,7 +136,7 @@ unfoldable pub bit_sequence_at : Reader TypeDef
 bit_sequence_at bytes = do
   store ← type_id_at bytes
   order ← type_id_at store.1
-  Ok (def.BitSequence store.0 order.0, order.1)
+  Ok (def.BitSequence store.0 order.0 None, order.1)
 
 unfoldable pub arms_read_at : Reader (List Arm)
 arms_read_at = sequence_at arm_read_at

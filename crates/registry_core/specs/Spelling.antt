@@ -49,7 +49,7 @@ definition (def.Array len element) = 3 ∷ le_bytes 4 len ++ type_id element
 definition (def.Tuple members) = 4 ∷ sequence type_id members
 definition (def.Primitive p) = 5 ∷ primitive_byte p ∷ []
 definition (def.Compact target) = 6 ∷ type_id target
-definition (def.BitSequence store order) = 7 ∷ type_id store ++ type_id order
+definition (def.BitSequence store order form) = 7 ∷ type_id store ++ type_id order
 
 abbrev pub type_info : TypeInfo → List ℕ
 type_info t = texts t.path ++ sequence param t.params ++ definition t.shape ++ texts t.docs

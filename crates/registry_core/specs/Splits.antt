@@ -11,7 +11,8 @@ use Rattle.registry_core.specs.declared.fault.RegistryReason.{RegistryReason}
 use Rattle.registry_core.specs.declared.fault.RegistryReason.TheVariants as registry
 use Rattle.types_core.specs.declared.type_info.TypeInfo.{TypeInfo}
 use Rattle.types_core.specs.Fits.{FitsList, FitsText, FitsTexts, FitsOption, FitsId, FitsParam}
-use Rattle.types_core.specs.Fits.{FitsField, FitsArm, FitsDefinition, FitsType}
+use Rattle.types_core.specs.Fits.{FitsField, FitsArm}
+use Rattle.registry_core.specs.AsRead.{ReadDefinition, ReadType}
 use Rattle.registry_core.specs.Bytes.{magic, version_of}
 use Rattle.registry_core.specs.Spelling.{sequence, text, texts, option, type_id, param, field, arm}
 use Rattle.registry_core.specs.Spelling.{definition, types_from}
@@ -76,7 +77,7 @@ PlacedFails i b why left = Fails length_at b why left
 -- fewer than n types come first, from position i on, and the next one is rejected
 abbrev pub NextType : ℕ → ℕ → Refusals
 NextType i n b why left = (ts : List TypeInfo) × (c : List ℕ) × (length ts < n)
-    × AllByRecursion FitsType ts × (b ≡ types_from i ts ++ c)
+    × AllByRecursion ReadType ts × (b ≡ types_from i ts ++ c)
     × PlacedFails (i + length ts) c why left
 
 -- one of the letters is missing or wrong
@@ -124,7 +125,7 @@ pub record PartFaults : Type 0 where
       ⊎ ((x : ℕ) × Behind x (Fails texts_at) b why left))))
   pub type_faults : AreFaults type_info_at
       (Then FitsTexts texts texts_at (λ _. Then (FitsList FitsParam) (sequence param) params_at
-      (λ _. Then FitsDefinition definition definition_at (λ _. Fails texts_at))))
+      (λ _. Then ReadDefinition definition definition_at (λ _. Fails texts_at))))
 
 -- the faults of a definition: there is no byte, the byte is above 7, or what follows it is rejected
 pub record DefinitionFaults : Type 0 where

@@ -1,6 +1,6 @@
 //! Laws of every registry and its encoding, alone and after the prefix of metadata.
 
-ghost use Rattle.types_core.specs.Fits.{FitsRegistry};
+ghost use Rattle.registry_core.specs.AsRead.{ReadRegistry};
 ghost use Rattle.registry_core.specs.Laws.{FaultIsKept, FaultIsWithin, FitsMetadata, FrontIsCut};
 ghost use Rattle.registry_core.specs.Laws.{ReadIsSpelled, SpelledIsRead, metadata_of};
 ghost use Rattle.registry_core.specs.Reading.{metadata_at, registry_at};
@@ -11,13 +11,13 @@ ghost use Rattle.registry_core.specs.Splits.{RegistryFaults};
 
 /// Proves that the encoding of a registry is read as that registry, whatever follows.
 pub fn spelled_is_read()
-    ensures registry { SpelledIsRead FitsRegistry spelling registry_at }
+    ensures registry { SpelledIsRead ReadRegistry spelling registry_at }
     ensures metadata { SpelledIsRead FitsMetadata metadata_of metadata_at }
 {}
 
 /// Proves that a registry that is read is encoded by the bytes that it took, and by no others.
 pub fn read_is_spelled()
-    ensures registry { ReadIsSpelled FitsRegistry spelling registry_at }
+    ensures registry { ReadIsSpelled ReadRegistry spelling registry_at }
     ensures metadata { ReadIsSpelled FitsMetadata metadata_of metadata_at }
 {}
 
@@ -39,7 +39,7 @@ pub fn fault_is_kept()
 
 /// Proves that a proper prefix of an encoding is rejected as `Truncated`, at the end of the prefix.
 pub fn front_is_cut()
-    ensures registry { FrontIsCut FitsRegistry spelling registry_at }
+    ensures registry { FrontIsCut ReadRegistry spelling registry_at }
     ensures metadata { FrontIsCut FitsMetadata metadata_of metadata_at }
 {}
 

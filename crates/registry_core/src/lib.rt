@@ -13,8 +13,8 @@ mod writing;
 pub use fault::{RegistryFault, RegistryReason};
 pub use reading::{read_metadata, read_registry};
 pub use types_core::{
-    Arm, Field, Fields, IntegerWidth, Items, Keys, Name, Param, Primitive, PrimitiveKind, Registry,
-    Signedness, Text, TypeDef, TypeId, TypeInfo,
+    Arm, BitForm, BitOrder, Field, Fields, IntegerWidth, Items, Keys, Name, Param, Primitive,
+    PrimitiveKind, Registry, Signedness, Text, TypeDef, TypeId, TypeInfo,
 };
 pub use version::Version;
 pub use writing::write_registry;

@@ -2,7 +2,7 @@
 
 ghost use Rattle.std.specs.Prelude.{◌≡◌, ◌++◌, ℕ, List, length, take, IfOk};
 ghost use Rattle.registry_core.specs.Answers.{RegistryAnswers, MetadataAnswers, IsUnlessMemory};
-ghost use Rattle.types_core.specs.Fits.{FitsRegistry};
+ghost use Rattle.registry_core.specs.AsRead.{ReadRegistry};
 ghost use Rattle.registry_core.specs.Gives.{Gives};
 ghost use Rattle.registry_core.specs.Reading.{registry_at, metadata_at};
 ghost use Rattle.registry_core.specs.Spelling.{spelling, metadata};
@@ -92,10 +92,10 @@ pub fn read_registry(alloc: Global, bytes: &[u8]) -> Result<(Registry, usize), R
     // The registry, or the error.
     ensures exact { RegistryAnswers bytes.now result (registry_at bytes.now) }
     // What is read is encoded by the bytes that it took.
-    ensures found { IfOk result (λ x. FitsRegistry x.0 × (take x.1 bytes.now ≡ spelling x.0)) }
+    ensures found { IfOk result (λ x. ReadRegistry x.0 × (take x.1 bytes.now ≡ spelling x.0)) }
     // What is encoded is read, whatever follows it.
     ensures only { (types : List TypeInfo) (rest : List ℕ)
-        → FitsRegistry types
+        → ReadRegistry types
         → bytes.now ≡ spelling types ++ rest
         → IsUnlessMemory (types, length (spelling types)) result }
 {
@@ -136,10 +136,10 @@ pub fn read_metadata(
     // The registry and the version, or the error.
     ensures exact { MetadataAnswers bytes.now result (metadata_at bytes.now) }
     // What is read is encoded by the bytes that it took.
-    ensures found { IfOk result (λ x. FitsRegistry x.0 × (take x.1 bytes.now ≡ metadata x.2 x.0)) }
+    ensures found { IfOk result (λ x. ReadRegistry x.0 × (take x.1 bytes.now ≡ metadata x.2 x.0)) }
     // What is encoded is read, whatever follows it.
     ensures only { (types : List TypeInfo) (version : AVersion) (rest : List ℕ)
-        → FitsRegistry types
+        → ReadRegistry types
         → bytes.now ≡ metadata version types ++ rest
         → IsUnlessMemory (types, length (metadata version types), version) result }
 {

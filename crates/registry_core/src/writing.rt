@@ -245,7 +245,7 @@ fn put_definition(out: &mut Vec<u8>, value: &TypeDef) -> Result<(), AllocError>
             out.push(6)?;
             put_type_id(out, *target)
         }
-        TypeDef::BitSequence { store, order } => {
+        TypeDef::BitSequence { store, order, .. } => {
             out.push(7)?;
             put_type_id(out, *store)?;
             put_type_id(out, *order)

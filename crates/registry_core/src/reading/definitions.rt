@@ -151,7 +151,8 @@ fn bit_sequence_of(bytes: &[u8]) -> Result<(TypeDef, &[u8]), ReadStop<'_>>
 {
     let (store, rest) = type_id_of(bytes)?;
     let (order, rest) = type_id_of(rest)?;
-    Ok((TypeDef::BitSequence { store, order }, rest))
+    let form = None;
+    Ok((TypeDef::BitSequence { store, order, form }, rest))
 }
 
 /// Reads a definition: its byte, and what follows it.

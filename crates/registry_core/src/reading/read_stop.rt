@@ -20,9 +20,10 @@ pub(crate) enum ReadStop<'a> {
 
 /// Returns the registry's reason for an error in a length, an id or a text.
 ///
-/// These are never rejected as a boolean or a character.
+/// These are never rejected as a boolean, a character or a bit sequence.
 fn registry_reason(reason: Reason) -> RegistryReason
-    requires { (reason ≢ Reason.BadBool) × (reason ≢ Reason.BadChar) }
+    requires { (reason ≢ Reason.BadBool) × (reason ≢ Reason.BadChar)
+        × (reason ≢ Reason.UnusedBits) }
     ensures { result ≡ registry_reason_of reason }
 {
     match reason {
@@ -30,7 +31,7 @@ fn registry_reason(reason: Reason) -> RegistryReason
         Reason::BadUtf8 => RegistryReason::BadUtf8,
         Reason::CompactNotShortest => RegistryReason::CompactNotShortest,
         Reason::CompactTooLarge => RegistryReason::CompactTooLarge,
-        Reason::BadBool | Reason::BadChar => unreachable!(),
+        Reason::BadBool | Reason::BadChar | Reason::UnusedBits => unreachable!(),
     }
 }
 
@@ -38,7 +39,8 @@ impl<'a> ReadStop<'a> {
     /// Returns the stop for an error in a length, an id or a text at the start of these bytes.
     pub(crate) fn at_fault(fault: Fault, bytes: &'a [u8]) -> ReadStop<'a>
         requires within { fault.at ≤ length bytes.now }
-        requires reason { (fault.reason ≢ Reason.BadBool) × (fault.reason ≢ Reason.BadChar) }
+        requires reason { (fault.reason ≢ Reason.BadBool) × (fault.reason ≢ Reason.BadChar)
+            × (fault.reason ≢ Reason.UnusedBits) }
         ensures { IsFaultAt (registry_reason_of fault.reason) (drop fault.at bytes.now) result }
     {
         let left = &bytes[fault.at as usize..];

@@ -1,4 +1,4 @@
-use Rattle.registry_core.proofs.SplitParts.{definition_faults, part_faults, piece_faults}
+use Rattle.registry_core.proofs.Splits.{definition_faults, part_faults, piece_faults}
 use Rattle.registry_core.proofs.SplitTypes.{all_faults}
 use Rattle.registry_core.proofs.laws.next_part_fails.Goals as goal
 
