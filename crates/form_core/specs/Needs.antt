@@ -37,6 +37,7 @@ need (form.Array n) first = 0
 need (form.ByteArray n) first = n
 need form.Sequence first = compact_need target.U32 first
 need form.Bytes first = compact_need target.U32 first
+need (form.Bits f) first = compact_need target.U32 first
 need form.Count first = compact_need target.U32 first
 
 -- the forms of nodes with a few bytes, which are carried over if a piece ends within them
@@ -58,11 +59,12 @@ abbrev pub IsNoText : PrimitiveKind → Type 0
 IsNoText K.Str = ⊥
 IsNoText _ = Unit {0}
 
--- neither a text nor a run of bytes
+-- neither a text nor a run of bytes, nor a bit sequence
 abbrev pub NoRun : Form → Type 0
 NoRun (form.Primitive p) = IsNoText (kind_of p)
 NoRun form.Bytes = ⊥
 NoRun (form.ByteArray n) = ⊥
+NoRun (form.Bits f) = ⊥
 NoRun _ = Unit {0}
 
 -- as many bytes as are needed, and no more

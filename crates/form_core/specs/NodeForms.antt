@@ -47,6 +47,7 @@ abbrev pub form_of_bytes : BytesForm → Form
 form_of_bytes (bytes.Plain p) = form_of_plain p
 form_of_bytes bytes.Text = form.Primitive P.Str
 form_of_bytes bytes.Bytes = form.Bytes
+form_of_bytes (bytes.Bits f) = form.Bits f
 form_of_bytes bytes.Arm = form.Arm
 form_of_bytes bytes.Sequence = form.Sequence
 

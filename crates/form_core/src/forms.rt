@@ -6,10 +6,10 @@ ghost use Rattle.form_core.specs.NodeForms.{form_of_bytes};
 
 use grammar_core::Form;
 use scale_core::Target;
-use types_core::{IntegerWidth, Primitive, PrimitiveKind, Signedness};
+use types_core::{BitForm, IntegerWidth, Primitive, PrimitiveKind, Signedness};
 
-/// The form of a node without parts that is neither a text nor a run of bytes (SCALE codec,
-/// "Types"): at most 32 bytes spell it.
+/// The form of a node without parts that is no text, no run of bytes and no bit sequence (SCALE
+/// codec, "Types"): at most 32 bytes spell it.
 #[derive(Clone, Copy)]
 pub enum PlainForm {
     /// A boolean, in one byte.
@@ -28,8 +28,8 @@ pub enum PlainForm {
     Count,
 }
 
-/// The form of a node that has 1 to 32 bytes of its own. Those of a text or a run of bytes are its
-/// length's.
+/// The form of a node that has 1 to 32 bytes of its own. Those of a text, a run of bytes or a bit
+/// sequence are its length's.
 #[derive(Clone, Copy)]
 pub enum BytesForm {
     /// A node without parts.
@@ -38,6 +38,8 @@ pub enum BytesForm {
     Text,
     /// A sequence of u8, after its length.
     Bytes,
+    /// A bit sequence in words of this form, after its number of bits.
+    Bits(BitForm),
     /// A variant, whose own byte is the index of its arm.
     Arm,
     /// A sequence, whose own bytes are its length.
@@ -73,6 +75,7 @@ pub fn bytes_form(form: Form) -> Option<BytesForm>
         Form::Arm => Some(BytesForm::Arm),
         Form::Sequence => Some(BytesForm::Sequence),
         Form::Bytes => Some(BytesForm::Bytes),
+        Form::Bits(bits) => Some(BytesForm::Bits(bits)),
         Form::Empty | Form::Fields | Form::Array(_) | Form::ByteArray(_) => None,
     }
 }

@@ -47,8 +47,8 @@ fn plain_need(form: PlainForm, first: u8) -> usize
 }
 
 /// Returns how many bytes a node of this form has of its own, given the first, or how many decide
-/// that it is rejected (SCALE codec, "Compact/General Integers"): 1 to 32. For a text or a run of
-/// bytes they are those of its length.
+/// that it is rejected (SCALE codec, "Compact/General Integers"): 1 to 32. For a text, a run of
+/// bytes or a bit sequence they are those of its length.
 #[inline(always)]
 pub fn need(form: BytesForm, first: u8) -> usize
     ensures exact { result ≡ need (form_of_bytes form) first }
@@ -58,7 +58,7 @@ pub fn need(form: BytesForm, first: u8) -> usize
     match form {
         BytesForm::Plain(plain) => plain_need(plain, first),
         BytesForm::Arm => 1,
-        BytesForm::Text | BytesForm::Bytes | BytesForm::Sequence => {
+        BytesForm::Text | BytesForm::Bytes | BytesForm::Bits(_) | BytesForm::Sequence => {
             compact_need(Target::U32, first)
         }
     }

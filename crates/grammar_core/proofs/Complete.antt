@@ -21,7 +21,7 @@ way_again : (w : Way) (l : Leaf) (b rest : List ℕ) → SpelledBy w l b →
 way_again (of_no_byte u) l b rest h = rw (h.0, h.1) refl
 way_again (of_width k make fault) l b rest h = rw (bytes_again k b rest h.0, h.1, h.2) refl
 way_again (of_compact m make) l b rest h = rw (h.1, compact_again m h.0 b rest h.2) refl
-way_again (of_run k) l b rest h = rw (h.1, run_again k h.0 b rest h.2) refl
+way_again (of_run k) l b rest h = rw (h.1, run_again k h.0.0 h.0.1 b rest h.2) refl
 
 mutual
   unfolding Val value_at layout_at

@@ -37,15 +37,17 @@ compact_has_byte : {X : Type 0} (x : ℕ) (b : List ℕ) → IsCompact target.U3
 compact_has_byte x b h e = let no = compact-bytes target.U32 x b h e in absurd cc
 
 -- a run of bytes without any is of a type that takes none
-run_no_bytes : (r : List TypeInfo) (t : ℕ) (k : RunKind) (s b : List ℕ) → b ≡ [] →
-    KnowsLayout r t (layout.plain (layout.run k)) → SpellsRun k s b → class_of r t ≡ class.Empty
-run_no_bytes r t kind.Text s b e known h =
-    compact_has_byte (length s) h.0 h.1 (nil_parts h.0 s (sym h.3 ∙ e)).0
-run_no_bytes r t kind.Bytes s b e known h =
-    compact_has_byte (length s) h.0 h.1 (nil_parts h.0 s (sym h.3 ∙ e)).0
-run_no_bytes r t (kind.ByteArray n) s b e known h =
-    let none : s ≡ [] = (nil_parts h.0 s (sym h.3 ∙ e)).1 in
-    empty_class r t (known (sym h.1.0 ∙ ap length none))
+run_no_bytes : (r : List TypeInfo) (t : ℕ) (k : RunKind) (n : ℕ) (s b : List ℕ) → b ≡ [] →
+    KnowsLayout r t (layout.plain (layout.run k)) → SpellsRun k n s b → class_of r t ≡ class.Empty
+run_no_bytes r t kind.Text n s b e known h =
+    compact_has_byte n h.0 h.1 (nil_parts h.0 s (sym h.4 ∙ e)).0
+run_no_bytes r t kind.Bytes n s b e known h =
+    compact_has_byte n h.0 h.1 (nil_parts h.0 s (sym h.4 ∙ e)).0
+run_no_bytes r t (kind.ByteArray m) n s b e known h =
+    let none : s ≡ [] = (nil_parts h.0 s (sym h.4 ∙ e)).1 in
+    empty_class r t (known (sym h.1.0 ∙ sym h.2 ∙ ap length none))
+run_no_bytes r t (kind.Bits f) n s b e known h =
+    compact_has_byte n h.0 h.1 (nil_parts h.0 s (sym h.4 ∙ e)).0
 
 -- what is known of a type whose values are read in this way
 abbrev KnowsWay : List TypeInfo → ℕ → Way → Type 0
@@ -70,7 +72,7 @@ leaf_no_bytes r t (of_no_byte u) l known h = known
 leaf_no_bytes r t (of_width k make fault) l known h = absurd (omega (arith, known, h.0))
 leaf_no_bytes r t (of_compact m make) l known h =
     empty_class r t (known (compact-bytes m h.0 [] h.2 refl))
-leaf_no_bytes r t (of_run k) l known h = run_no_bytes r t k h.0 [] refl known h.2
+leaf_no_bytes r t (of_run k) l known h = run_no_bytes r t k h.0.0 h.0.1 [] refl known h.2
 
 mutual
   unfolding Val

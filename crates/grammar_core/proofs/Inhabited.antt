@@ -2,7 +2,7 @@
 use Rattle.std.proofs.Common.{◌≡◌, ℕ, zero, suc, ◌+◌, ◌<◌, ◌⊎◌, Bool, true, false, cond, List, []}
 use Rattle.std.proofs.Common.{◌∷◌, ◌++◌, length, Option, Some, None, refl, sym, ap, subst, ◌∙◌}
 use Rattle.std.proofs.Common.{arith, inl, inr}
-use Rattle.std.specs.Prelude.{◌==◌, ◌||◌, flat_map}
+use Rattle.std.specs.Prelude.{◌==◌, ◌||◌, flat_map, ◌*◌, ◌/◌, ◌%◌, min}
 use Rattle.std.specs.List.{list_all, list_any, AllByRecursion}
 use Rattle.std.specs.Str.{is_utf8, chars}
 use Rattle.std.proofs.lemmas.Bool.{eqb-true, eq-eqb}
@@ -12,7 +12,11 @@ use Rattle.scale_core.specs.declared.compact.Target.{Target}
 use Rattle.scale_core.specs.declared.compact.Target.TheVariants as target
 use Rattle.scale_core.proofs.Numbers.{both_bytes}
 use Rattle.types_core.specs.declared.definition.Arm.{Arm}
-use Rattle.types_core.specs.Kinds.{kind_of}
+use Rattle.types_core.specs.Bits.{bits_bytes}
+use Rattle.types_core.specs.Kinds.{kind_of, width_bytes}
+use Rattle.types_core.specs.declared.bits.BitForm.{BitForm}
+use Rattle.types_core.specs.declared.kind.IntegerWidth.{IntegerWidth}
+use Rattle.types_core.specs.declared.kind.IntegerWidth.TheVariants as width
 use Rattle.types_core.specs.declared.kind.PrimitiveKind.{PrimitiveKind}
 use Rattle.types_core.specs.declared.kind.PrimitiveKind.TheVariants as K
 use Rattle.types_core.specs.declared.definition.TypeDef.{TypeDef}
@@ -26,7 +30,7 @@ use Rattle.widths_core.specs.Targets.{target_of}
 use Rattle.widths_core.specs.Reach.{IsAmong, here, there, IsPlain}
 use Rattle.widths_core.specs.Classes.{finite_within, finite_step, holds_at, is_empty}
 use Rattle.widths_core.specs.Layouts.{Plain, layout, sized_layout, kind_layout, sequence_layout}
-use Rattle.widths_core.specs.Layouts.{array_layout, is_byte, compact_layout}
+use Rattle.widths_core.specs.Layouts.{array_layout, is_byte, bits_layout, compact_layout}
 use Rattle.widths_core.specs.Layouts as layout
 use Rattle.widths_core.specs.declared.run_kind.RunKind.{RunKind}
 use Rattle.widths_core.specs.declared.run_kind.RunKind.TheVariants as kind
@@ -221,22 +225,43 @@ unfolding zeros
 zero_taken layout.bool = refl
 zero_taken _ = refl
 
+-- no bits need no words
+no_words : (f : BitForm) → bits_bytes f 0 ≡ 0
+no_words f = go f.store where
+  go : (w : IntegerWidth) → (0 / (8 * width_bytes w) + min 1 (0 % (8 * width_bytes w)))
+      * width_bytes w ≡ 0
+  go width.Bits8 = refl
+  go width.Bits16 = refl
+  go width.Bits32 = refl
+  go width.Bits64 = refl
+  go width.Bits128 = refl
+
 -- the length 0, or that of an array, stands before as many bytes 0, which are a run
-least_run : (k : RunKind) → (s b : List ℕ) × AreBytes b × SpellsRun k s b
+least_run : (k : RunKind) → (x : ℕ × List ℕ) × (b : List ℕ) × AreBytes b × SpellsRun k x.0 x.1 b
 least_run kind.Text = (
-  [],
+  (0, []),
   compact 0 ++ [],
   both_bytes (compact 0) [] zero-bytes tt,
-  (compact 0, u32_zero, no_text, refl),
+  (compact 0, u32_zero, refl, no_text, refl),
 )
 least_run kind.Bytes = (
-  [],
+  (0, []),
   compact 0 ++ [],
   both_bytes (compact 0) [] zero-bytes tt,
-  (compact 0, u32_zero, tt, refl),
+  (compact 0, u32_zero, refl, tt, refl),
 )
-least_run (kind.ByteArray n) =
-    (zeros n, zeros n, zeros-bytes n, ([], (length-zeros n, refl), tt, refl))
+least_run (kind.ByteArray n) = (
+  (n, zeros n),
+  zeros n,
+  zeros-bytes n,
+  ([], (refl, refl), length-zeros n, tt, refl),
+)
+least_run (kind.Bits f) = (
+  (0, []),
+  compact 0 ++ [],
+  both_bytes (compact 0) [] zero-bytes tt,
+  (compact 0, u32_zero, sym (no_words f), refl, refl),
+)
 
 -- the least leaf of each way, and the bytes that spell it
 least_leaf : (w : Way) → IsZeroTaken w → (l : Leaf) × (b : List ℕ) × AreBytes b × SpelledBy w l b
@@ -244,7 +269,7 @@ least_leaf (of_no_byte u) h = (u, [], tt, (refl, refl))
 least_leaf (of_width k make fault) h =
     (make (zeros k), zeros k, zeros-bytes k, (length-zeros k, refl, h))
 least_leaf (of_compact m make) h = let z = zero_of m in (make 0, z.0, z.1, (0, refl, z.2))
-least_leaf (of_run k) h = let s = least_run k in (run_leaf k s.0, s.1, s.2, (s.0, refl, s.3))
+least_leaf (of_run k) h = let x = least_run k in (run_leaf k x.0, x.1, x.2, (x.0, refl, x.3))
 
 -- what is laid out as a kind has its least leaf as a value
 plain_value : (r : List TypeInfo) (t : ℕ) (p : Plain) → layout r t ≡ layout.plain p →
@@ -287,6 +312,12 @@ compact_of : (r : List TypeInfo) (t : ℕ) (o : Option Target) → (o ≡ None �
 compact_of r t None left e = absurd (left refl)
 compact_of r t (Some m) left e = plain_value r t _ e
 
+-- what is laid out as bits has a value if they are read
+bits_of : (r : List TypeInfo) (t : ℕ) (o : Option BitForm) → (o ≡ None → ⊥) →
+    layout r t ≡ bits_layout o → IsInhabited r t
+bits_of r t None left e = absurd (left refl)
+bits_of r t (Some f) left e = plain_value r t _ e
+
 -- by its definition's layout, a finite type has a value if those it needs do and none is left out
 sized_value : (r : List TypeInfo) (k t : ℕ) (d : TypeDef) → FitsDefinition d → IsPlain r t →
     shape r t ≡ Some d → ((u : ℕ) → IsAmong u (references d) → finite_within r k u ≡ true →
@@ -318,8 +349,8 @@ sized_value r k t (Def.Tuple ts) fits plain is child e h = let all =
 sized_value r k t (Def.Primitive p) fits plain is child e h = kind_value r t (kind_of p) e
 sized_value r k t (Def.Compact u) fits plain is child e h =
     compact_of r t (target_of r u.0) (λ none. plain t (Def.Compact u) here is none) e
-sized_value r k t (Def.BitSequence store order) fits plain is child e h =
-    absurd (plain t (Def.BitSequence store order) here is tt)
+sized_value r k t (Def.BitSequence store order bits) fits plain is child e h =
+    bits_of r t bits (λ none. plain t (Def.BitSequence store order bits) here is none) e
 
 -- ---- by rank
 

@@ -50,8 +50,8 @@ way_takes (of_width k make fault) b =
     leaf_by_takes k make fault b (bytes_at k b) (bytes_takes k b)
 way_takes (of_compact m make) b = leaf_of_takes (IsCompact m) (SpelledBy (of_compact m make)) make b
     (compact_at m b) (compact_takes m b) (λ n c is. (n, refl, is))
-way_takes (of_run k) b = leaf_of_takes (SpellsRun k) (SpelledBy (of_run k)) (run_leaf k) b
-    (run_at k b) (run_takes k b) (λ s c is. (s, refl, is))
+way_takes (of_run k) b = leaf_of_takes (λ x c. SpellsRun k x.0 x.1 c) (SpelledBy (of_run k))
+    (run_leaf k) b (run_at k b) (run_takes k b) (λ x c is. (x, refl, is))
 
 -- a leaf that is read stood on the front as a value
 as_leaf_takes : (P : Leaf → List ℕ → Type 0) (Q : Tree → List ℕ → Type 0) (b : List ℕ)

@@ -18,6 +18,7 @@ use Rattle.types_core.specs.Kinds.{kind_of}
 use Rattle.types_core.specs.declared.kind.PrimitiveKind.{PrimitiveKind}
 use Rattle.types_core.specs.declared.kind.PrimitiveKind.TheVariants as K
 use Rattle.types_core.proofs.Widths.{width_most}
+use Rattle.types_core.specs.declared.bits.BitForm.{BitForm}
 use Rattle.types_core.specs.declared.definition.TypeDef.{TypeDef}
 use Rattle.types_core.specs.declared.definition.TypeDef.TheVariants as Def
 use Rattle.types_core.specs.declared.type_info.TypeInfo.{TypeInfo}
@@ -25,10 +26,13 @@ use Rattle.graph_core.specs.Types.{shape, field_types}
 use Rattle.widths_core.specs.Arms.{arm_of}
 use Rattle.widths_core.specs.Targets.{target_of}
 use Rattle.widths_core.specs.Classes.{is_empty}
-use Rattle.widths_core.specs.Layouts.{Plain, Layout, layout, layout_of_shape, sized_layout}
-use Rattle.widths_core.specs.Layouts.{kind_layout, sequence_layout, array_layout, is_byte}
-use Rattle.widths_core.specs.Layouts.{compact_layout}
+use Rattle.widths_core.specs.Layouts.{bits_layout, Plain, Layout, layout, layout_of_shape}
+use Rattle.widths_core.specs.Layouts.{sized_layout}
+use Rattle.widths_core.specs.Layouts.{bits_layout, kind_layout, sequence_layout, array_layout}
+use Rattle.widths_core.specs.Layouts.{is_byte}
+use Rattle.widths_core.specs.Layouts.{bits_layout, compact_layout}
 use Rattle.widths_core.specs.Layouts as layout
+use Rattle.widths_core.specs.RunBytes.{run_bytes}
 use Rattle.widths_core.specs.declared.run_kind.RunKind.{RunKind}
 use Rattle.widths_core.specs.declared.run_kind.RunKind.TheVariants as kind
 use Rattle.grammar_core.specs.Runs.{IsRunLength, run_leaf}
@@ -89,6 +93,11 @@ shaped_compact : (o : Option Target) (d : Option TypeDef) → Shaped (compact_la
 shaped_compact (Some m) d = tt
 shaped_compact None d = tt
 
+-- the layout of a bit sequence asks nothing of the definition
+shaped_bits : (o : Option BitForm) (d : Option TypeDef) → Shaped (bits_layout o) d
+shaped_bits (Some bits) d = tt
+shaped_bits None d = tt
+
 -- the layout by a definition agrees with it on width, arms, and whether it is a sequence
 shaped_sized : (r : List TypeInfo) (d : TypeDef) → Shaped (sized_layout r d) (Some d)
 shaped_sized r (Def.Composite fs) = tt
@@ -100,7 +109,8 @@ shaped_sized r (Def.Array n t) =
 shaped_sized r (Def.Tuple ts) = tt
 shaped_sized r (Def.Primitive p) = shaped_kind (kind_of p) (Some (Def.Primitive p)) refl
 shaped_sized r (Def.Compact t) = shaped_compact (target_of r t.0) (Some (Def.Compact t))
-shaped_sized r (Def.BitSequence store order) = tt
+shaped_sized r (Def.BitSequence store order bits) =
+    shaped_bits bits (Some (Def.BitSequence store order bits))
 
 -- the same for a type that takes no bytes, and where no such type is known
 shaped_from : (r : List TypeInfo) (e : Bool) (d : Option TypeDef) → Shaped (layout_of_shape r e d) d
@@ -215,14 +225,15 @@ pub sequence_length : (r : List TypeInfo) (t u k : ℕ) → layout r t ≡ layou
 sequence_length r t u k e = rw (shaped_at r t (layout.sequence u) e) refl
 
 -- the bytes of a run by itself are its own after those that may stand before so many
-run_spelling : (r : List TypeInfo) (t : ℕ) (k : RunKind) (s c : List ℕ) →
-    layout r t ≡ layout.plain (layout.run k) → IsRunLength k (length s) c →
-    leaf_spelling (shape r t) (run_leaf k s) ≡ c ++ s
-run_spelling r t kind.Text s c e h = ap (λ (x : List ℕ). x ++ s) (sym h.1)
-run_spelling r t kind.Bytes s c e h =
-    rw (shaped_at r t (layout.plain (layout.run kind.Bytes)) e, h.1) refl
-run_spelling r t (kind.ByteArray k) s c e h =
+run_spelling : (r : List TypeInfo) (t : ℕ) (k : RunKind) (n : ℕ) (s c : List ℕ) →
+    layout r t ≡ layout.plain (layout.run k) → IsRunLength k n c → length s ≡ run_bytes k n →
+    leaf_spelling (shape r t) (run_leaf k (n, s)) ≡ c ++ s
+run_spelling r t kind.Text n s c e h len = rw (len, h.1) refl
+run_spelling r t kind.Bytes n s c e h len =
+    rw (shaped_at r t (layout.plain (layout.run kind.Bytes)) e, len, h.1) refl
+run_spelling r t (kind.ByteArray k) n s c e h len =
     rw (shaped_at r t (layout.plain (layout.run (kind.ByteArray k))) e, h.1) refl
+run_spelling r t (kind.Bits f) n s c e h len = rw h.1 refl
 
 -- ---- all nodes
 
@@ -234,7 +245,7 @@ leaf_spells r t layout.bool l b a e h = rw h.1 (sym (bool_is b h.2))
 leaf_spells r t layout.char l b a e h = rw h.1 (unsigned_bytes_are 4 (number b) b a h.0 refl)
 leaf_spells r t (layout.run k) l b a e h =
     rw h.1 (append-nil (leaf_spelling (shape r t) (run_leaf k h.0))
-    ∙ run_spelling r t k h.0 h.2.0 e h.2.1 ∙ sym h.2.3)
+    ∙ run_spelling r t k h.0.0 h.0.1 h.2.0 e h.2.1 h.2.2 ∙ sym h.2.4)
 leaf_spells r t (layout.unsigned k) l b a e h =
     rw (h.1, append-nil, shaped_at r t (layout.plain (layout.unsigned k)) e)
     (unsigned_bytes_are k (number b) b a h.0 refl)

@@ -19,7 +19,8 @@ use Rattle.grammar_core.specs.declared.form.StopReason.TheVariants as stop
 use Rattle.grammar_core.specs.declared.form.Next.{Next}
 use Rattle.grammar_core.specs.declared.form.Next.TheVariants as next
 use Rattle.widths_core.specs.Layouts.{is_byte}
-use Rattle.grammar_core.specs.Forms.{array_form, sequence_form, compact_form, next_at, next_of_step}
+use Rattle.grammar_core.specs.Forms.{bits_form, array_form, sequence_form, compact_form, next_at}
+use Rattle.grammar_core.specs.Forms.{next_of_step}
 use Rattle.grammar_core.proofs.Classes.{shapeless}
 
 -- what comes next by the two tests of a class, where f comes next at a type that takes bytes
@@ -89,9 +90,9 @@ step_next r t (Def.Primitive p) s e h =
 step_next r t (Def.Compact u) s e h =
     rw (h, e) (compact_tests (is_finite r t) (is_empty r t) (is_unit (target_of r u.0))
     (compact_form (target_of r u.0)) (class_stable r t (Def.Compact u) e))
-step_next r t (Def.BitSequence store order) s e h =
-    rw (h, e) (class_next (is_finite r t) (is_empty r t) step.NoValue step.BitSequence
-    (next.Stop stop.BitSequence) refl refl)
+step_next r t (Def.BitSequence store order form) s e h =
+    rw (h, e) (class_next (is_finite r t) (is_empty r t) step.NoValue (step.BitSequence form)
+    (bits_form form) refl refl)
 
 -- where there is a step, it says what comes next
 pub some_next : (r : List TypeInfo) (t : ℕ) (o : Option TypeStep) (s : TypeStep) → IsStepAt r t o →

@@ -15,11 +15,12 @@ use Rattle.grammar_core.proofs.Ways.{MakesNoText, textless}
 use Rattle.grammar_core.specs.Laws.{AllHaveText, TextsAreText, LeafHasText}
 
 -- a run's bytes are counted, and of a text they are UTF-8
-run_text_is : (k : RunKind) (s b : List ℕ) → length s ≤ length b → SpellsRun k s b →
-    (bytes_of_text (run_leaf k s) ≤ length b) × LeafHasText (run_leaf k s)
-run_text_is kind.Text s b le h = (le, (h.1.0, h.2))
-run_text_is kind.Bytes s b le h = (le, tt)
-run_text_is (kind.ByteArray n) s b le h = (le, tt)
+run_text_is : (k : RunKind) (n : ℕ) (s b : List ℕ) → length s ≤ length b → SpellsRun k n s b →
+    (bytes_of_text (run_leaf k (n, s)) ≤ length b) × LeafHasText (run_leaf k (n, s))
+run_text_is kind.Text n s b le h = (le, (rw h.2 h.1.0, h.3))
+run_text_is kind.Bytes n s b le h = (le, tt)
+run_text_is (kind.ByteArray m) n s b le h = (le, tt)
+run_text_is (kind.Bits f) n s b le h = (le, tt)
 
 -- the same of any leaf, by the way of its kind
 way_text : (w : Way) (l : Leaf) (b : List ℕ) → ((n : ℕ) → MakesNoText w b n) → SpelledBy w l b →
@@ -31,7 +32,8 @@ way_text (of_width k make fault) l b without h =
 way_text (of_compact m make) l b without h =
     let none = without h.0 in rw h.1 (omega (arith, none.0), none.1)
 way_text (of_run k) l b without h =
-    rw h.1 (run_text_is k h.0 b (omega (arith, ap length h.2.3, length-append h.2.0 h.0)) h.2)
+    rw h.1 (run_text_is k h.0.0 h.0.1 b
+    (omega (arith, ap length h.2.4, length-append h.2.0 h.0.1)) h.2)
 
 -- the text or the run of bytes that a leaf is has no more bytes than its spelling, and a text is
 -- UTF-8

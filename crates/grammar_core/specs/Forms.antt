@@ -2,6 +2,7 @@
 -- "Types"; the order of the reasons is this project's).
 use Rattle.std.specs.Prelude.{ℕ, List, Bool, Option, Some, None, if◌then◌else◌}
 use Rattle.scale_core.specs.declared.compact.Target.{Target}
+use Rattle.types_core.specs.declared.bits.BitForm.{BitForm}
 use Rattle.types_core.specs.declared.definition.TypeDef.{TypeDef}
 use Rattle.types_core.specs.declared.definition.TypeDef.TheVariants as Def
 use Rattle.types_core.specs.declared.type_info.TypeInfo.{TypeInfo}
@@ -30,6 +31,11 @@ abbrev pub compact_form : Option Target → Next
 compact_form (Some m) = next.Wants (form.Compact m)
 compact_form None = next.Stop stop.BadCompact
 
+-- a bit sequence is read where it is allowed and its words are known
+abbrev pub bits_form : Option BitForm → Next
+bits_form (Some bits) = next.Wants (form.Bits bits)
+bits_form None = next.Stop stop.BitSequence
+
 -- the form of a type that takes bytes, by its definition; an unknown type has no value
 abbrev pub form_of_shape : List TypeInfo → Option TypeDef → Next
 form_of_shape r None = next.Stop stop.NoFiniteValue
@@ -40,7 +46,7 @@ form_of_shape r (Some (Def.Array n t)) = array_form n (is_byte (shape r t.0))
 form_of_shape r (Some (Def.Tuple ts)) = next.Wants form.Fields
 form_of_shape r (Some (Def.Primitive p)) = next.Wants (form.Primitive p)
 form_of_shape r (Some (Def.Compact t)) = compact_form (target_of r t.0)
-form_of_shape r (Some (Def.BitSequence store order)) = next.Stop stop.BitSequence
+form_of_shape r (Some (Def.BitSequence store order bits)) = bits_form bits
 
 abbrev pub sized_form : List TypeInfo → ℕ → Next
 sized_form r t = form_of_shape r (shape r t)
@@ -71,4 +77,4 @@ next_of_step (step.ByteArray n) = next.Wants (form.ByteArray n)
 next_of_step (step.Sequence t) = next.Wants form.Sequence
 next_of_step step.Bytes = next.Wants form.Bytes
 next_of_step step.Count = next.Wants form.Count
-next_of_step step.BitSequence = next.Stop stop.BitSequence
+next_of_step (step.BitSequence bits) = bits_form bits

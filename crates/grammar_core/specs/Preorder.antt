@@ -109,6 +109,7 @@ stored (leaf (tree.count n)) = (9, (n, (0, (pos 0, []))))
 stored (branch tree.fields n) = (10, (n, (0, (pos 0, []))))
 stored (branch (tree.arm q) n) = (11, (q, (n, (pos 0, []))))
 stored (branch tree.list n) = (12, (n, (0, (pos 0, []))))
+stored (leaf (tree.bits n s)) = (13, (n, (0, (pos 0, s))))
 
 abbrev head_by_mark : ℕ → ℕ → ℕ → ℤ → List ℕ → Head
 head_by_mark zero n m z s = leaf tree.unit
@@ -126,8 +127,11 @@ head_by_mark (suc (suc (suc (suc (suc (suc (suc (suc (suc (suc zero)))))))))) n 
     branch tree.fields n
 head_by_mark (suc (suc (suc (suc (suc (suc (suc (suc (suc (suc (suc zero))))))))))) n m z s =
     branch (tree.arm n) m
-head_by_mark (suc (suc (suc (suc (suc (suc (suc (suc (suc (suc (suc (suc k)))))))))))) n m z s =
+head_by_mark (suc (suc (suc (suc (suc (suc (suc (suc (suc (suc (suc (suc zero)))))))))))) n m z s =
     branch tree.list n
+head_by_mark (suc (suc (suc (suc (suc (suc (suc (suc (suc (suc (suc (suc (suc k))))))))))))) n m z
+    s =
+    leaf (tree.bits n s)
 
 abbrev head_from : Stored → Head
 head_from x = head_by_mark x.0 x.1.0 x.1.1.0 x.1.1.1.0 x.1.1.1.1

@@ -64,6 +64,7 @@ leaf_spelling d (tree.bool x) = bool_byte x ∷ []
 leaf_spelling d (tree.char c) = le_bytes 4 c
 leaf_spelling d (tree.text s) = compact (length s) ++ s
 leaf_spelling d (tree.bytes s) = length_bytes d (length s) ++ s
+leaf_spelling d (tree.bits n s) = compact n ++ s
 leaf_spelling d (tree.unsigned n) = le_bytes (width_of d) n
 leaf_spelling d (tree.signed z) = le_bytes (width_of d) (word z)
 leaf_spelling d (tree.wide s) = s

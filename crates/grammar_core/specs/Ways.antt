@@ -16,7 +16,7 @@ use Rattle.grammar_core.specs.Tree.{Leaf, unit, bool, char, unsigned, signed, wi
 use Rattle.grammar_core.specs.Runs.{SpellsRun, run_leaf, run_at}
 
 -- no byte, for this leaf; so many bytes, made into a leaf unless they are rejected; a compact
--- integer, made into a leaf; or a text or a run of bytes
+-- integer, made into a leaf; or a text, a run of bytes or words
 pub data Way : Type 0 where
   of_no_byte : Leaf → Way
   of_width : ℕ → (List ℕ → Leaf) → (List ℕ → Option Reason) → Way
@@ -55,7 +55,7 @@ abbrev pub SpelledBy : Way → Leaf → List ℕ → Type 0
 SpelledBy (of_no_byte u) l b = (l ≡ u) × (b ≡ [])
 SpelledBy (of_width k make fault) l b = (length b ≡ k) × (l ≡ make b) × (fault b ≡ None)
 SpelledBy (of_compact m make) l b = (n : ℕ) × (l ≡ make n) × IsCompact m n b
-SpelledBy (of_run k) l b = (s : List ℕ) × (l ≡ run_leaf k s) × SpellsRun k s b
+SpelledBy (of_run k) l b = (x : ℕ × List ℕ) × (l ≡ run_leaf k x) × SpellsRun k x.0 x.1 b
 
 -- ---- how they are read
 

@@ -4,7 +4,7 @@ ghost use Rattle.std.specs.Prelude.{◌≡◌};
 ghost use Rattle.grammar_core.specs.Forms.{next_of_step};
 
 use scale_core::Target;
-use types_core::Primitive;
+use types_core::{BitForm, Primitive};
 use widths_core::TypeStep;
 
 /// The form of a node, which says how many parts it has (SCALE codec, "Types").
@@ -32,6 +32,9 @@ pub enum Form {
     Bytes,
     /// A compact length alone, because the elements take no bytes.
     Count,
+    /// A bit sequence: its number of bits as a compact integer, then the words that hold them. It
+    /// has no parts.
+    Bits(BitForm),
 }
 
 /// Why no value can be read at a position. If several apply, the first in this order is reported
@@ -43,7 +46,7 @@ pub enum StopReason {
     /// The type has no finite value: each would contain another of its type, or the type is a
     /// variant without arms.
     NoFiniteValue,
-    /// The type is a bit sequence, whose values are not supported.
+    /// The type is a bit sequence that is not allowed, or whose words are not known.
     BitSequence,
     /// The type is a compact that wraps no unsigned integer of at most 128 bits, no empty type, and
     /// no wrapper of one of these.
@@ -79,6 +82,7 @@ pub fn next_of_step(step: TypeStep) -> Next
         TypeStep::Sequence { .. } => Next::Wants(Form::Sequence),
         TypeStep::Bytes => Next::Wants(Form::Bytes),
         TypeStep::Count => Next::Wants(Form::Count),
-        TypeStep::BitSequence => Next::Stop(StopReason::BitSequence),
+        TypeStep::BitSequence(Some(bits)) => Next::Wants(Form::Bits(bits)),
+        TypeStep::BitSequence(None) => Next::Stop(StopReason::BitSequence),
     }
 }

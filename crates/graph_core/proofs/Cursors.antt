@@ -95,7 +95,7 @@ begun (Some (Def.Compact t)) k x e = absurd (lacks k x e) where
   lacks : (j : ℕ) (y : Arm) → slice_get [] j ≡ Some y → ⊥
   lacks zero y f = cc
   lacks (suc j) y f = cc
-begun (Some (Def.BitSequence s o)) k x e = absurd (lacks k x e) where
+begun (Some (Def.BitSequence s o form)) k x e = absurd (lacks k x e) where
   lacks : (j : ℕ) (y : Arm) → slice_get [] j ≡ Some y → ⊥
   lacks zero y f = cc
   lacks (suc j) y f = cc

@@ -123,7 +123,7 @@ opened_left r a b i d e types o =
       go (Def.Tuple ts) = append-nil _
       go (Def.Primitive p) = refl
       go (Def.Compact t) = refl
-      go (Def.BitSequence s x) = refl
+      go (Def.BitSequence s x form) = refl
 
 -- what is reported for a type that was just opened
 pub told_opened : (r : List TypeInfo) (a b : Graph) (i : ℕ) (d : TypeDef) → shape r i ≡ Some d →
@@ -144,7 +144,7 @@ told_opened r a b i d e types o =
       go (Def.Tuple ts) n p q = (ts, rw n refl, p, refl)
       go (Def.Primitive k) n p q = rw n refl
       go (Def.Compact t) n p q = (t, rw n refl, p)
-      go (Def.BitSequence s x) n p q = (s, x, rw n refl)
+      go (Def.BitSequence s x form) n p q = (s, x, rw n refl)
 
 -- after a second look at type i there were two at most at each type, and one at those after it
 pub again : (i t : ℕ) (log : List ℕ) → (times t log ≤ 2) × (i ≤ t → times t log ≤ 1) →

@@ -28,7 +28,7 @@ open_references (Def.Array n t) k = t.0 ∷ []
 open_references (Def.Tuple ts) k = ids ts
 open_references (Def.Primitive p) k = []
 open_references (Def.Compact t) k = t.0 ∷ []
-open_references (Def.BitSequence store order) k = []
+open_references (Def.BitSequence store order form) k = []
 
 abbrev pub arms_of : TypeDef → List Arm
 arms_of (Def.Variant arms) = arms

@@ -20,7 +20,7 @@ outline (Def.Array n t) = told.Array n
 outline (Def.Tuple ts) = told.Tuple (length ts)
 outline (Def.Primitive p) = told.Primitive p
 outline (Def.Compact t) = told.Compact
-outline (Def.BitSequence store order) = told.BitSequence
+outline (Def.BitSequence store order form) = (told.BitSequence form)
 
 -- this was reported for the open definition, and none of it was read yet
 abbrev pub IsTold : Graph → Definition → Type 0
@@ -37,5 +37,5 @@ IsTold g (told.Tuple n) = (ts : List TypeId) × (open_definition (current g) ≡
 IsTold g (told.Primitive p) = open_definition (current g) ≡ Def.Primitive p
 IsTold g told.Compact = (t : TypeId) × (open_definition (current g) ≡ Def.Compact t)
     × (parts_left g ≡ t.0 ∷ [])
-IsTold g told.BitSequence = (store order : TypeId)
-    × (open_definition (current g) ≡ Def.BitSequence store order)
+IsTold g (told.BitSequence form) = (store order : TypeId)
+    × (open_definition (current g) ≡ Def.BitSequence store order form)

@@ -17,7 +17,7 @@ references (Def.Array len t) = t.0 ∷ []
 references (Def.Tuple ts) = ids ts
 references (Def.Primitive p) = []
 references (Def.Compact t) = t.0 ∷ []
-references (Def.BitSequence store order) = []
+references (Def.BitSequence store order form) = []
 
 -- all of these are positions among n types
 abbrev pub AreKnown : ℕ → List ℕ → Type 0

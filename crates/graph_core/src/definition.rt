@@ -3,7 +3,7 @@
 ghost use Rattle.std.specs.Prelude.{◌≡◌};
 ghost use Rattle.graph_core.specs.Outlines.{outline};
 
-use types_core::{Primitive, TypeDef};
+use types_core::{BitForm, Primitive, TypeDef};
 
 /// The outline of a definition: its form without its references, which are read one after the
 /// other.
@@ -20,8 +20,8 @@ pub enum Definition {
     Tuple(usize),
     Primitive(Primitive),
     Compact,
-    /// A bit sequence. Its ids are not references.
-    BitSequence,
+    /// A bit sequence, and how it is read, if it is. Its ids are not references.
+    BitSequence(Option<BitForm>),
 }
 
 /// Returns the outline of a definition.
@@ -36,6 +36,6 @@ pub(crate) fn outline(shape: &TypeDef) -> Definition
         TypeDef::Tuple(members) => Definition::Tuple(members.len()),
         TypeDef::Primitive(primitive) => Definition::Primitive(*primitive),
         TypeDef::Compact(_) => Definition::Compact,
-        TypeDef::BitSequence { .. } => Definition::BitSequence,
+        TypeDef::BitSequence { form, .. } => Definition::BitSequence(*form),
     }
 }

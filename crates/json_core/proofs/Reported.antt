@@ -19,6 +19,7 @@ use Rattle.scale_core.specs.Compact.{IsCompact, target_bytes}
 use Rattle.scale_core.specs.declared.compact.Target.{Target}
 use Rattle.scale_core.specs.declared.compact.Target.TheVariants as target
 use Rattle.scale_core.proofs.Numbers.{number-bound, neg-pos}
+use Rattle.types_core.specs.declared.bits.BitForm.{BitForm}
 use Rattle.types_core.specs.declared.definition.Arm.{Arm}
 use Rattle.types_core.specs.declared.definition.Field.{Field}
 use Rattle.types_core.specs.declared.definition.TypeDef.{TypeDef}
@@ -33,7 +34,7 @@ use Rattle.widths_core.specs.Classes.{is_empty}
 use Rattle.widths_core.specs.Targets.{target_of, compact_target_of, compact_target_of_shape}
 use Rattle.widths_core.specs.Layouts.{Plain, Layout, layout, layout_of_shape, sized_layout}
 use Rattle.widths_core.specs.Layouts.{kind_layout, sequence_layout, array_layout, is_byte}
-use Rattle.widths_core.specs.Layouts.{compact_layout}
+use Rattle.widths_core.specs.Layouts.{bits_layout, compact_layout}
 use Rattle.widths_core.specs.Layouts as layout
 use Rattle.grammar_core.specs.Tree.{Tree, Trees, how_many}
 use Rattle.grammar_core.specs.Tree as tree
@@ -46,7 +47,7 @@ use Rattle.grammar_core.specs.Grammar.{Val, Vals}
 use Rattle.grammar_core.specs.Parts.{Part, times}
 use Rattle.grammar_core.specs.Cells.{fields_part, arm_part, list_part}
 use Rattle.node_core.specs.Shown.{Seen, IsValue, seen_parts, children_by, bytes_of, children_of}
-use Rattle.node_core.specs.Shown.{text_of}
+use Rattle.node_core.specs.Shown.{text_of, words_of}
 use Rattle.node_core.specs.Whats.{what_of}
 use Rattle.node_core.specs.declared.what.What.{What}
 use Rattle.node_core.specs.declared.what.What.TheVariants as what
@@ -59,7 +60,7 @@ use Rattle.json_core.specs.Defined.{defined_arm, composite_fields}
 use Rattle.json_core.specs.Json.{json_of, json_seen, all_json, each_json, unsigned_json}
 use Rattle.json_core.specs.Json.{signed_json, unsigned_data, signed_data, bytes_json, wide_json}
 use Rattle.json_core.specs.Json.{parts_json, fields_json, arm_json, arm_at_position, arm_types}
-use Rattle.json_core.specs.Json.{part_types, element_type}
+use Rattle.json_core.specs.Json.{bit_form, bits_json, part_types, element_type}
 use Rattle.json_core.proofs.Children.{jsons, all_is, each_is}
 
 -- ---- what the layout of a type says of its definition
@@ -97,6 +98,12 @@ defined_compact : (r : List TypeInfo) (o : Option Target) (d : Option TypeDef) �
 defined_compact r (Some m) d e = e
 defined_compact r None d e = tt
 
+-- the layout of a bit sequence says nothing of integers, arms or targets
+defined_bits : (r : List TypeInfo) (o : Option BitForm) (d : Option TypeDef) →
+    Defined r (bits_layout o) d
+defined_bits r (Some f) d = tt
+defined_bits r None d = tt
+
 -- the layout of a type whose values have bytes agrees with its definition
 defined_sized : (r : List TypeInfo) (d : TypeDef) → Defined r (sized_layout r d) (Some d)
 defined_sized r (Def.Composite fs) = tt
@@ -108,7 +115,8 @@ defined_sized r (Def.Array n t) =
 defined_sized r (Def.Tuple ts) = tt
 defined_sized r (Def.Primitive p) = defined_kind r (kind_of p) (Some (Def.Primitive p)) refl
 defined_sized r (Def.Compact t) = defined_compact r (target_of r t.0) (Some (Def.Compact t)) refl
-defined_sized r (Def.BitSequence store order) = tt
+defined_sized r (Def.BitSequence store order form) =
+    defined_bits r form (Some (Def.BitSequence store order form))
 
 -- the layout of a definition agrees with it, whether or not it takes bytes
 defined_from : (r : List TypeInfo) (e : Bool) (d : Option TypeDef) →
@@ -185,6 +193,8 @@ JsonReported r t v (what.Unsigned n) = (integer_json (shape r t) ≡ shown.Numbe
 JsonReported r t v (what.Signed z) = (integer_json (shape r t) ≡ shown.Number → FitsSigned w64 z)
     × (json_of r t v ≡ signed_by (integer_json (shape r t)) z)
 JsonReported r t v (what.Wide s) = json_of r t v ≡ wide_json s
+JsonReported r t v (what.Bits n) = (s : List ℕ) × (words_of v ≡ Some s)
+    × (json_of r t v ≡ bits_json (bit_form (shape r t)) n s)
 JsonReported r t v (what.Compact n) =
     (compact_json (compact_target_of r t) ≡ shown.Number → n < 2 ^ 64)
     × (json_of r t v ≡ unsigned_by (compact_json (compact_target_of r t)) n)
@@ -273,11 +283,11 @@ list_reported r t u vs e p =
     ∙ sym (ap (λ (q : Part). jsons (seen_parts r q vs)) p))
 
 -- a run's node reports its bytes and its JSON
-run_leaf_reported : (r : List TypeInfo) (t : ℕ) (k : RunKind) (s : List ℕ) →
-    JsonReported r t (tree.leaf (run_leaf k s)) (what_of (tree.leaf (run_leaf k s)))
+run_leaf_reported : (r : List TypeInfo) (t : ℕ) (k : RunKind) (x : ℕ × List ℕ) →
+    JsonReported r t (tree.leaf (run_leaf k x)) (what_of (tree.leaf (run_leaf k x)))
 unfolding json_of
-run_leaf_reported r t kind.Text s = (s, refl, refl)
-run_leaf_reported r t _ s = (s, refl, refl)
+run_leaf_reported r t kind.Text x = (x.1, refl, refl)
+run_leaf_reported r t _ x = (x.1, refl, refl)
 
 -- the node of a leaf has the JSON that its kind gives
 leaf_reported : (r : List TypeInfo) (t : ℕ) (p : Plain) (l : tree.Leaf) (b : List ℕ) →
@@ -336,6 +346,16 @@ bytes_are s found bytes e f h =
     let same : Some bytes.now ≡ Some h.0 = sym (found_is e f) ∙ h.1 in
     let is : bytes.now ≡ h.0 = cc in
     h.2 ∙ ap bytes_json (sym is)
+
+-- a node that is a bit sequence has the digits of the bits in the words that were found for it
+pub bits_are : (s : Seen) (n : ℕ) (found : Option (Bor (List ℕ))) (bytes : Bor (List ℕ)) →
+    option_map (λ x. x.now) found ≡ words_of s.tree → found ≡ Some bytes →
+    JsonReported s.types s.ty s.tree (what.Bits n) →
+    json_seen s ≡ bits_json (bit_form (shape s.types s.ty)) n bytes.now
+bits_are s n found bytes e f h =
+    let same : Some bytes.now ≡ Some h.0 = sym (found_is e f) ∙ h.1 in
+    let is : bytes.now ≡ h.0 = cc in
+    h.2 ∙ ap (bits_json (bit_form (shape s.types s.ty)) n) (sym is)
 
 -- a composite's value has the JSON of its fields
 pub fields_are : (s : Seen) (fs : List Field) → composite_fields (shape s.types s.ty) ≡ Some fs →

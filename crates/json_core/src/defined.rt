@@ -6,9 +6,10 @@ ghost use Rattle.graph_core.specs.Types.{shape};
 ghost use Rattle.types_core.specs.Kinds.{kind_of};
 ghost use Rattle.json_core.specs.Defined.{kind_json, integer_json, compact_json, defined_arm};
 ghost use Rattle.json_core.specs.Defined.{composite_fields};
+ghost use Rattle.json_core.specs.Json.{bit_form};
 
 use crate::integer_json::IntegerJson;
-use types_core::{Arm, Fields, Primitive, PrimitiveKind, TypeDef};
+use types_core::{Arm, BitForm, Fields, Primitive, PrimitiveKind, TypeDef};
 use value_core::NodeRef;
 
 /// Returns how integers of the primitive stand in JSON.
@@ -50,6 +51,17 @@ pub(crate) fn defined_arm<'r>(node: &NodeRef<'_, 'r>, position: u32) -> Option<&
 {
     match node.checked().shape(node.type_id()) {
         Some(TypeDef::Variant(arms)) => arms.as_slice().get(position as usize),
+        _ => None,
+    }
+}
+
+/// Returns where the bits of the node's type stand in their words, if that is a bit sequence whose
+/// words are known.
+pub(crate) fn bit_form(node: &NodeRef<'_, '_>) -> Option<BitForm>
+    ensures { result ≡ bit_form (shape node.now.types node.now.ty) }
+{
+    match node.checked().shape(node.type_id()) {
+        Some(TypeDef::BitSequence { form, .. }) => *form,
         _ => None,
     }
 }

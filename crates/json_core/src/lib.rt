@@ -2,6 +2,7 @@
 //! memory.
 #![tactic(auto)]
 
+mod bits;
 mod defined;
 mod fields;
 mod hexadecimal;

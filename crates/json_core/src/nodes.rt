@@ -8,7 +8,8 @@ ghost use Rattle.graph_core.specs.Types.{shape};
 ghost use Rattle.node_core.specs.Shown.{children_of};
 ghost use Rattle.json_core.specs.Json.{fields_json, parts_json, json_seen};
 
-use crate::defined::{compact_json, composite_fields, defined_arm, integer_json};
+use crate::bits::bits_json;
+use crate::defined::{bit_form, compact_json, composite_fields, defined_arm, integer_json};
 use crate::fields::fields_json;
 use crate::hexadecimal::bytes_json;
 use crate::integers::{signed_json, unsigned_json, wide_json};
@@ -78,6 +79,7 @@ fn with_items(alloc: Global, node: &NodeRef<'_, '_>, items: Vec<Value>) -> Resul
         }
         What::List => Ok(Value::Array(items)),
         What::Count(count) => single(alloc, "count", Value::from(count)),
+        What::Bits(count) => bits_json(alloc, bit_form(node), node.words().unwrap(), count),
     }
 }
 

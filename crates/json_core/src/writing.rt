@@ -12,18 +12,18 @@ ghost use Rattle.serde_json.specs.View.{items_of};
 ghost use Rattle.serde_json.specs.Written.{items_outline};
 ghost use Rattle.node_core.specs.Shown.{children_of};
 ghost use Rattle.json_core.specs.Defined.{unsigned_by, signed_by};
-ghost use Rattle.json_core.specs.Json.{bytes_json, wide_json, json_seen, fields_json};
+ghost use Rattle.json_core.specs.Json.{bits_json, bytes_json, wide_json, json_seen, fields_json};
 ghost use Rattle.types_core.specs.Keys.{key_order};
 ghost use Rattle.token_core.specs.Tokens.{AddsTokens, prints};
 ghost use Rattle.json_core.specs.Tokens.{AddsValue, data_at};
 ghost use Rattle.json_core.specs.declared.integer_json.IntegerJson.TheVariants.{Number};
 
-use crate::defined::{compact_json, composite_fields, defined_arm, integer_json};
+use crate::defined::{bit_form, compact_json, composite_fields, defined_arm, integer_json};
 use crate::fields::name_of;
 use crate::integer_json::IntegerJson;
 use std::alloc::{AllocError, Allocator, Global};
 use token_core::{Escapes, Output};
-use types_core::{Arm, Field, Fields, Keys};
+use types_core::{Arm, BitForm, Field, Fields, Keys};
 use value_core::{NodeRef, What};
 
 /// The most fields that are few: a step past each child costs less than memory for a list.
@@ -73,6 +73,21 @@ fn write_wide<A: Allocator>(out: &mut Output<A>, bytes: [u8; 32]) -> Result<(), 
     let mut highest_first = bytes;
     highest_first.reverse();
     write_bytes(out, &highest_first)
+}
+
+/// Writes a bit sequence as a text of its digits, or null if its words are not known.
+fn write_bits<A: Allocator>(
+    out: &mut Output<A>,
+    form: Option<BitForm>,
+    bytes: &[u8],
+    count: u32,
+) -> Result<(), AllocError>
+    ensures { AddsValue result out.old out.new (bits_json form count bytes.now) }
+{
+    match form {
+        Some(form) => out.bits(form, bytes, count),
+        None => out.null(),
+    }
 }
 
 /// Writes a text of one character.
@@ -299,5 +314,6 @@ pub(crate) fn write_node<A: Allocator>(
         }
         What::List => write_items(out, alloc, node),
         What::Count(count) => write_count(out, count),
+        What::Bits(count) => write_bits(out, bit_form(node), node.words().unwrap(), count),
     }
 }

@@ -3,7 +3,7 @@
 --   whole_single, whole_element, whole_leaf: WholeLeaves; fields_turns also: Wrapping
 --   whole_own, whole_bare, bare_turn, own_turn, cut_turn: TurnReports, by the kind in FormSplits
 --   byte_array_turn, whole_byte_array: ByteArrays
---   run_turn, run_piece: OpenRuns; run_rest, run_end: RunEnds
+--   run_turn, run_piece: OpenRuns, UnusedBits; run_rest, run_end: RunEnds
 --   add_plain: PlainAdding; add_arm, add_bare, add_sequence, take_node: LengthAdding
 --   turn, is_finished: Endings; is_on_its_way: Sound
 -- Below these: TurnEffects has what a turn holds or adds, MachineTurn that adding a node is a turn
@@ -20,6 +20,7 @@ pub mod Settling
 pub mod TurnEffects
 pub mod TurnReports
 pub mod OpenRuns
+pub mod UnusedBits
 pub mod RunEnds
 pub mod ByteArrays
 pub mod WholeLeaves

@@ -3,7 +3,7 @@ use Rattle.std.specs.Prelude.{◌≡◌, ℕ, ◌+◌, ◌-◌, ◌<◌, ◌≤�
 use Rattle.std.specs.Prelude.{Some, None, Ok}
 use Rattle.widths_core.specs.declared.run_kind.RunKind.{RunKind}
 use Rattle.grammar_core.specs.Runs.{run_form, run_front, run_length_at}
-use Rattle.value_core.specs.Built.{Built, Pieces, settled_in}
+use Rattle.value_core.specs.Built.{Built, IsClean, Pieces, settled_in}
 use Rattle.value_core.specs.Walked.{next_of, start_of}
 use Rattle.grammar_core.specs.declared.form.Form.{Form}
 use Rattle.grammar_core.specs.declared.form.Next.TheVariants as next
@@ -43,11 +43,12 @@ pub record IsLength (k : RunKind) (n : ℕ) : Type 0 where
   pub own : HasBytes (run_form k) → AreOwn (run_form k) (run_front k n)
   pub read : run_length_at k (run_front k n) ≡ Ok (n, [])
 
--- if a run is open, it is next, its length is known, and nothing is carried
+-- if a run is open, it is next, its length is known, nothing is carried, and no unused bit came as
+-- 1
 abbrev pub IsRunNext : Built → List ℕ → Option Pieces → Type 0
 IsRunNext b carry None = Unit {0}
 IsRunNext b carry (Some t) = (next_of b.walk ≡ next.Wants (run_form t.kind)) × (carry ≡ [])
-    × IsLength t.kind t.len
+    × IsLength t.kind t.len × IsClean t.kind t.len t.bytes
 
 pub record IsRunning (b : Built) (carry : List ℕ) : Type 0 where
   pub rooted : 1 ≤ length b.walk.frames

@@ -1,14 +1,16 @@
 -- One piece of input, turn by turn.
 use Rattle.std.specs.Prelude.{◌≡◌, ℕ, suc, ◌+◌, ◌-◌, ◌≤◌, ◌⊎◌, List, [], ◌++◌, length, take}
-use Rattle.std.specs.Prelude.{drop, false, true, None, Result, Ok, Err}
+use Rattle.std.specs.Prelude.{drop, false, true, Option, Some, None, Result, Ok, Err}
 use Rattle.types_core.specs.declared.type_info.TypeInfo.{TypeInfo}
 use Rattle.widths_core.specs.Layouts as layout
+use Rattle.scale_core.specs.Compact.{compact}
+use Rattle.widths_core.specs.RunBytes.{run_bytes}
 use Rattle.widths_core.specs.declared.run_kind.RunKind.{RunKind}
 use Rattle.grammar_core.specs.Runs.{run_length_at}
 use Rattle.grammar_core.specs.declared.form.Form.{Form}
 use Rattle.grammar_core.specs.declared.form.Next.TheVariants as next
 use Rattle.value_core.specs.Begun.{IsBegun}
-use Rattle.value_core.specs.Built.{next_layout}
+use Rattle.value_core.specs.Built.{IsClean, Pieces, next_layout}
 use Rattle.value_core.specs.Walked.{elements_after, next_of}
 use Rattle.value_core.specs.Refusals.{is_complete}
 use Rattle.grammar_core.specs.Reading.{Refusal, truncated}
@@ -18,6 +20,7 @@ use Rattle.outcome_core.specs.Decided.{Decided}
 use Rattle.outcome_core.specs.Machine.{remain, to_go, is_cut, TurnLeads}
 use Rattle.machine_core.specs.NodeAdds.{IsSpelled}
 use Rattle.machine_core.specs.Reasons.{reason_of}
+use Rattle.machine_core.specs.declared.reason.DecodeReason.TheVariants as reason
 use Rattle.machine_core.specs.Running.{Running, IsCarry, IsRunNext, state_of, held_of}
 use Rattle.outcome_core.specs.Reported.{reported, after, own_at}
 use Rattle.machine_core.specs.declared.node.NodeFault.{NodeFault}
@@ -69,13 +72,13 @@ pub record WantsBytes (s : Running) : Type 0 where
 abbrev pub KeepsNode : Running → List ℕ → Type 0
 KeepsNode s bytes = IsSpelled s.built (held_of s ++ bytes)
 
--- a text or a run of bytes is next; the held bytes followed by these, at least one, are its length
--- and perhaps some of its bytes
+-- a text, a run of bytes or a bit sequence is next; the held bytes followed by these, at least one,
+-- are its length and perhaps some of its bytes, in which no unused bit is 1
 abbrev pub KeepsRun : Running → List ℕ → Type 0
 KeepsRun s bytes = (k : RunKind) × (next_layout s.built ≡ layout.plain (layout.run k))
     × (1 ≤ length bytes)
     × ((n : ℕ) × (came : List ℕ) × (run_length_at k (held_of s ++ bytes) ≡ Ok (n, came))
-    × (length came ≤ n))
+    × (length came ≤ run_bytes k n) × IsClean k n came)
 
 -- memory is needed, with `rest` left of the piece: a value may stand next, and the first bytes of
 -- `rest` complete its node, which is to be added, or are bytes of a run, which are to be kept
@@ -265,3 +268,9 @@ EndReports old new count (Err (stop.Refused held reported_reason at len)) =
     (rest : List ℕ) → EndsTurns old rest (stop.Refused (count + held) reported_reason at len)
 EndReports old new count (Err stop.OutOfMemory) = (rest : List ℕ) → WantsMemory old rest
 EndReports old new count (Err s) = ⊥
+
+-- the stop at an unused bit of 1, so many bytes after those that came
+abbrev pub unused_stop : Option Pieces → ℕ → Stopped
+unused_stop (Some t) after = let held = length (compact t.len) + length t.bytes in
+    stop.Refused held reason.UnusedBits (held + after) (held + after + 1)
+unused_stop None after = stop.Wants

@@ -1,17 +1,18 @@
 //! The general turn: one node, or the bytes of one that a piece has.
 
-ghost use Rattle.std.specs.Prelude.{ℕ, List, true, ◌≡◌, ◌<◌, ◌≤◌, ◌+◌, ◌++◌, length};
+ghost use Rattle.std.specs.Prelude.{ℕ, List, true, ◌≡◌, ◌<◌, ◌≤◌, ◌+◌, ◌^◌, ◌++◌, length, take};
 ghost use Rattle.std.specs.Prelude.{None, IsSome, Ok};
 ghost use Rattle.machine_core.specs.Running.{IsCarry, IsRunNext};
 ghost use Rattle.value_core.specs.Walked.{next_of};
-ghost use Rattle.value_core.specs.Built.{pieces_bytes};
+ghost use Rattle.value_core.specs.Built.{pieces_bytes, unused_in};
 ghost use Rattle.value_core.specs.Refusals.{Lacks, is_complete};
 ghost use Rattle.grammar_core.specs.Runs.{run_form};
 ghost use Rattle.form_core.specs.Needs.{AreOwn, HasBytes, IsBare, IsNeeded};
 ghost use Rattle.form_core.specs.NodeForms.{form_of_bytes};
 ghost use Rattle.machine_core.specs.NodeAdds.{TakesNode};
 ghost use Rattle.machine_core.specs.Turned.{EndReports};
-ghost use Rattle.machine_core.specs.Turned.{IsSound, KeepsTurns, PieceReports, StepReports};
+ghost use Rattle.machine_core.specs.Turned.{IsSound, KeepsTurns, PieceReports};
+ghost use Rattle.machine_core.specs.Turned.{StepReports, unused_stop};
 ghost use Rattle.machine_core.specs.Turned.{node_turned};
 
 use crate::node::{NodeFault, add_arm, add_plain, add_sequence};
@@ -58,6 +59,7 @@ pub(crate) fn take_node<A: Allocator>(
         BytesForm::Sequence => add_sequence(builder, own),
         BytesForm::Text => take_length(builder, RunKind::Text, own),
         BytesForm::Bytes => take_length(builder, RunKind::Bytes, own),
+        BytesForm::Bits(bits) => take_length(builder, RunKind::Bits(bits), own),
     }
 }
 
@@ -173,16 +175,37 @@ impl<'r, A: Allocator> Partial<'r, A> {
         if piece.is_empty() {
             return Err(Stopped::Wants);
         }
+        if let Some(after) = self.builder.unused_in(&piece[..piece.len().min(missing)]) {
+            return Err(self.unused_stop(after));
+        }
         if piece.len() < missing {
             return self.run_piece(missing, piece);
         }
         self.run_rest(&piece[..missing])
     }
 
+    /// Returns the stop at an unused bit that is 1, so many bytes after those of the open run,
+    /// which are words of bits.
+    fn unused_stop(&self, after: usize) -> Stopped
+        requires open { IsSome self.now.built.run }
+        requires short { after < 2 ^ 32 }
+        ensures { result ≡ unused_stop self.now.built.run after }
+    {
+        let before = compact_len(u128::from(self.builder.run_len()));
+        let held = before + self.builder.run_so_far();
+        Stopped::Refused {
+            held,
+            reason: DecodeReason::UnusedBits,
+            at: (held + after) as u64,
+            len: held + after + 1,
+        }
+    }
+
     /// Appends the bytes that the open run lacks, and ends it.
     fn run_rest(&mut self, rest: &[u8]) -> Result<usize, Stopped>
         requires next { IsRunNext self.old.built self.old.carry self.old.built.run }
         requires lacks { Lacks self.old.built.run (length rest.now) }
+        requires clean { unused_in self.old.built.run rest.now ≡ None }
         requires some { 1 ≤ length rest.now }
         ensures reports { (later : List ℕ) →
             StepReports self.old self.new (rest.now ++ later) result }
@@ -198,6 +221,7 @@ impl<'r, A: Allocator> Partial<'r, A> {
     fn run_piece(&mut self, missing: usize, piece: &[u8]) -> Result<usize, Stopped>
         requires next { IsRunNext self.old.built self.old.carry self.old.built.run }
         requires lacks { Lacks self.old.built.run missing }
+        requires clean { unused_in self.old.built.run (take missing piece.now) ≡ None }
         requires some { 1 ≤ missing }
         requires there { 1 ≤ length piece.now }
         ensures reports { PieceReports self.old self.new piece.now result }

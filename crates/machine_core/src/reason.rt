@@ -31,7 +31,7 @@ pub enum DecodeReason {
     TooDeep,
     /// A part has a type without a finite value.
     NoFiniteValue,
-    /// A part is a bit sequence, whose values are left out.
+    /// A part is a bit sequence that is not allowed, or whose words are not known.
     BitSequence,
     /// A part is a compact that wraps no unsigned integer.
     BadCompact,
@@ -39,6 +39,8 @@ pub enum DecodeReason {
     TooLong,
     /// An allocation failed.
     OutOfMemory,
+    /// A bit of a bit sequence's last word is 1 but stands for none.
+    UnusedBits,
 }
 
 impl fmt::Display for DecodeReason {
@@ -62,6 +64,7 @@ impl fmt::Display for DecodeReason {
             DecodeReason::BadCompact => "BadCompact",
             DecodeReason::TooLong => "TooLong",
             DecodeReason::OutOfMemory => "OutOfMemory",
+            DecodeReason::UnusedBits => "UnusedBits",
         })
     }
 }
@@ -79,6 +82,7 @@ impl From<Reason> for DecodeReason {
             Reason::BadUtf8 => DecodeReason::BadUtf8,
             Reason::CompactNotShortest => DecodeReason::CompactNotShortest,
             Reason::CompactTooLarge => DecodeReason::CompactTooLarge,
+            Reason::UnusedBits => DecodeReason::UnusedBits,
         }
     }
 }

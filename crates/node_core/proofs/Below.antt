@@ -67,7 +67,7 @@ children_seen r t (tree.branch k vs) = refl
 children_seen r t (tree.leaf l) = refl
 
 -- the parts of a value are each a value of its type
-children_are : (r : List TypeInfo) (t : ℕ) (v : Tree) (b : List ℕ) → AreBytes b → Val r t v b →
+pub children_are : (r : List TypeInfo) (t : ℕ) (v : Tree) (b : List ℕ) → AreBytes b → Val r t v b →
     AreValues r (types_of_parts r t v) (trees_of v)
 unfolding Val
 children_are r t (tree.branch tree.fields vs) b p h = rw h.1 (vals_are r h.0 vs b p h.2)

@@ -1,5 +1,5 @@
 -- The bytes of a node as it is kept: what is computed, and after it what lies in the pool.
-use Rattle.std.proofs.Common.{◌≡◌, ℕ, ◌+◌, ◌-◌, ◌≤◌, ◌<◌, Bool, true, false, List}
+use Rattle.std.proofs.Common.{◌≡◌, ℕ, ◌+◌, ◌-◌, ◌*◌, ◌≤◌, ◌<◌, Bool, true, false, List}
 use Rattle.std.proofs.Common.{[], ◌∷◌, ◌++◌, length, take, drop, Option, refl, sym, ap, subst, ◌∙◌}
 use Rattle.std.proofs.Common.{arith}
 use Rattle.std.specs.Prelude.{ℤ, pos, negsuc, slice_set, slice_range}
@@ -127,3 +127,9 @@ pub starts_bytes : (f : List ℕ) (d : Option TypeDef) (pool : List ℕ) (k len 
 starts_bytes f d pool k len start h e =
     ap (λ (x : List ℕ). x ++ slice_range pool start (start + len))
     (e ∙ ap (length_bytes d) (sym (length-range pool start len h)))
+
+-- before the words of bits in the pool stands the compact number of bits
+pub starts_bits : (f : List ℕ) (d : Option TypeDef) (pool : List ℕ) (k unused len start : ℕ) →
+    f ≡ compact (8 * len - unused) → Starts f d pool k (is.Bits unused len start)
+starts_bits f d pool k unused len start e =
+    ap (λ (x : List ℕ). x ++ slice_range pool start (start + len)) e

@@ -28,6 +28,7 @@ node_bytes r pool n = cell_bytes r (cell_shown pool n)
 abbrev pub pool_bytes : List ℕ → Content → List ℕ
 pool_bytes pool (is.Text len start) = slice_range pool start (start + len)
 pool_bytes pool (is.Bytes len start) = slice_range pool start (start + len)
+pool_bytes pool (is.Bits unused len start) = slice_range pool start (start + len)
 pool_bytes pool (is.Wide start) = slice_range pool start (start + 32)
 pool_bytes pool _ = []
 

@@ -1,9 +1,11 @@
 -- A node without children, before it is added to a value.
-use Rattle.std.specs.Prelude.{◌≡◌, ℕ, ◌<◌, ◌^◌, List, [], ◌∷◌, ◌++◌, length, FitsSigned}
+use Rattle.std.specs.Prelude.{◌≡◌, ℕ, ◌+◌, ◌-◌, ◌*◌, ◌<◌, ◌≤◌, ◌^◌, List, [], ◌∷◌}
+use Rattle.std.specs.Prelude.{◌++◌, length, FitsSigned}
 use Rattle.std.specs.Int.{w128}
 use Rattle.grammar_core.specs.Preorder as head
 use Rattle.grammar_core.specs.Tree as tree
 use Rattle.grammar_core.specs.Preorder.{Head}
+use Rattle.types_core.specs.Bits.{bits_bytes}
 use Rattle.types_core.specs.declared.type_id.TypeId.{TypeId}
 use Rattle.widths_core.specs.declared.run_kind.RunKind.{RunKind}
 use Rattle.widths_core.specs.declared.run_kind.RunKind.TheVariants as kind
@@ -21,6 +23,7 @@ leaf_head (leaf.Bool b) = head.leaf (tree.bool b)
 leaf_head (leaf.Char c) = head.leaf (tree.char c)
 leaf_head (leaf.Text s) = head.leaf (tree.text s.now)
 leaf_head (leaf.Bytes s) = head.leaf (tree.bytes s.now)
+leaf_head (leaf.Bits n s) = head.leaf (tree.bits n s.now)
 leaf_head (leaf.Unsigned n) = head.leaf (tree.unsigned n)
 leaf_head (leaf.Signed z) = head.leaf (tree.signed z)
 leaf_head (leaf.Wide b) = head.leaf (tree.wide b.now)
@@ -30,12 +33,15 @@ leaf_head (leaf.Count n) = head.leaf (tree.count n)
 abbrev pub leaf_text_bytes : Leaf → ℕ
 leaf_text_bytes (leaf.Text s) = length s.now
 leaf_text_bytes (leaf.Bytes s) = length s.now
+leaf_text_bytes (leaf.Bits n s) = length s.now
 leaf_text_bytes _ = 0
 
--- a text or a run is below 2 ^ 32 bytes, an integer fits 128 bits, and a wide one has 32 bytes
+-- a text or a run is below 2 ^ 32 bytes, of the bits of words fewer than 256 are unused, an integer
+-- fits 128 bits, and a wide one has 32 bytes
 abbrev pub FitsLeaf : Leaf → Type 0
 FitsLeaf (leaf.Text s) = length s.now < 2 ^ 32
 FitsLeaf (leaf.Bytes s) = length s.now < 2 ^ 32
+FitsLeaf (leaf.Bits n s) = (n < 2 ^ 32) × (n ≤ 8 * length s.now) × (8 * length s.now < n + 256)
 FitsLeaf (leaf.Unsigned n) = n < 2 ^ 128
 FitsLeaf (leaf.Compact n) = n < 2 ^ 128
 FitsLeaf (leaf.Signed z) = FitsSigned w128 z
@@ -61,6 +67,8 @@ pub record IsAppended (ty : TypeId) (l : Leaf) (nodes : List Node) (pool : List 
 -- the node that an open run becomes when all its bytes are there
 abbrev pub run_content_of : RunKind → ℕ → ℕ → Content
 run_content_of kind.Text len start = content.Text len start
+run_content_of (kind.Bits f) n start =
+    content.Bits (8 * bits_bytes f n - n) (bits_bytes f n) start
 run_content_of _ len start = content.Bytes len start
 
 abbrev pub run_content : OpenRun → Content

@@ -1,5 +1,6 @@
 -- What contracts see of a value: its registry, its type and its tree.
-use Rattle.std.specs.Prelude.{◌≡◌, ℕ, zero, suc, ℤ, pos, neg_ℤ, ◌+◌, ◌-◌, ◌*◌, ◌^◌, ◌≤◌, nat_lt}
+use Rattle.std.specs.Prelude.{◌≡◌, ℕ, zero, suc, ℤ, pos, neg_ℤ, ◌+◌, ◌-◌, ◌*◌, ◌^◌, ◌<◌, ◌≤◌}
+use Rattle.std.specs.Prelude.{nat_lt}
 use Rattle.std.specs.Prelude.{List, [], ◌∷◌, length, map, take, drop, slice_range, if◌then◌else◌}
 use Rattle.std.specs.Prelude.{Option, Some, None}
 use Rattle.std.specs.List.{AllByRecursion}
@@ -50,6 +51,11 @@ abbrev pub bytes_of : Tree → Option (List ℕ)
 bytes_of (tree.leaf (tree.bytes s)) = Some s
 bytes_of _ = None
 
+-- the bytes of the words of a bit sequence
+abbrev pub words_of : Tree → Option (List ℕ)
+words_of (tree.leaf (tree.bits n s)) = Some s
+words_of _ = None
+
 -- ---- how it is kept
 
 -- the integer that a word of sixteen bytes stands for in two's complement
@@ -69,6 +75,8 @@ head_shown pool n (is.Count k) = head.leaf (tree.count k)
 head_shown pool n (is.Text len start) = head.leaf (tree.text (slice_range pool start (start + len)))
 head_shown pool n (is.Bytes len start) =
     head.leaf (tree.bytes (slice_range pool start (start + len)))
+head_shown pool n (is.Bits unused len start) =
+    head.leaf (tree.bits (8 * len - unused) (slice_range pool start (start + len)))
 head_shown pool n (is.Unsigned k) = head.leaf (tree.unsigned k)
 head_shown pool n (is.Compact k) = head.leaf (tree.compact k)
 head_shown pool n (is.Signed z) = head.leaf (tree.signed z)
@@ -100,6 +108,7 @@ closed_as c k = c
 abbrev pub kept_bytes : Content → ℕ
 kept_bytes (is.Text len start) = len
 kept_bytes (is.Bytes len start) = len
+kept_bytes (is.Bits unused len start) = len
 kept_bytes (is.LongUnsigned start) = 16
 kept_bytes (is.LongCompact start) = 16
 kept_bytes (is.LongSigned start) = 16
@@ -111,10 +120,12 @@ abbrev pub all_kept : List Node → ℕ
 all_kept [] = 0
 all_kept (n ∷ ns) = kept_bytes n.content + all_kept ns
 
--- its bytes lie in the pool
+-- its bytes lie in the pool; of bits there are fewer than 2^32
 abbrev pub IsInPool : List ℕ → Content → Type 0
 IsInPool pool (is.Text len start) = start + len ≤ length pool
 IsInPool pool (is.Bytes len start) = start + len ≤ length pool
+IsInPool pool (is.Bits unused len start) = (start + len ≤ length pool)
+    × (8 * len < 2 ^ 32 + unused)
 IsInPool pool (is.LongUnsigned start) = start + 16 ≤ length pool
 IsInPool pool (is.LongCompact start) = start + 16 ≤ length pool
 IsInPool pool (is.LongSigned start) = start + 16 ≤ length pool

@@ -1,6 +1,6 @@
 -- What a node is, as callers see it.
 use Rattle.grammar_core.specs.Tree.{Tree, leaf, branch, unit, bool, char, text, bytes, unsigned}
-use Rattle.grammar_core.specs.Tree.{signed, wide, compact, fields, arm, list, count}
+use Rattle.grammar_core.specs.Tree.{bits, signed, wide, compact, fields, arm, list, count}
 use Rattle.node_core.specs.declared.what.What.{What}
 use Rattle.node_core.specs.declared.what.What.TheVariants as what
 
@@ -18,3 +18,4 @@ what_of (branch fields vs) = what.Fields
 what_of (branch (arm q) vs) = what.Arm q
 what_of (branch list vs) = what.List
 what_of (leaf (count n)) = what.Count n
+what_of (leaf (bits n s)) = what.Bits n

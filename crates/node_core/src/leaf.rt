@@ -21,6 +21,8 @@ pub enum Leaf<'b> {
     Text(&'b [u8]),
     /// The bytes of a sequence or an array of u8, fewer than 2^32.
     Bytes(&'b [u8]),
+    /// A bit sequence: the number of bits, and the bytes of their words.
+    Bits(u32, &'b [u8]),
     /// An unsigned integer of at most sixteen bytes.
     Unsigned(u128),
     /// A signed integer of at most sixteen bytes.
@@ -56,14 +58,32 @@ fn short_signed(number: i128) -> Option<i64>
     }
 }
 
+/// Appends a signed integer to the pool unless it fits 64 bits, and returns the content of its
+/// node.
+#[inline(always)]
+fn keep_signed<A: Allocator>(number: i128, pool: &mut GrowVec<u8, A>) -> Result<Content, AllocError>
+    requires { FitsLeaf (Leaf.Signed number) }
+    ensures ok { IfOk result (λ content. IsLeafKept (Leaf.Signed number)
+        pool.old.list.items pool.new.list.items content) }
+    ensures err { IfErr result (λ _. pool.new.list.items ≡ pool.old.list.items) }
+{
+    match short_signed(number) {
+        Some(number) => Ok(Content::Signed(number)),
+        None => Ok(Content::LongSigned {
+            start: put_long(pool, number.cast_unsigned())?,
+        }),
+    }
+}
+
 impl<'b> Leaf<'b> {
-    /// Returns the number of bytes of a text or a run of bytes, and 0 for another leaf.
+    /// Returns the number of bytes of a text, a run of bytes or the words of bits, and 0 for
+    /// another leaf.
     #[inline(always)]
     pub fn text_len(self) -> usize
         ensures { result ≡ leaf_text_bytes self.entry }
     {
         match self {
-            Leaf::Text(bytes) | Leaf::Bytes(bytes) => bytes.len(),
+            Leaf::Text(bytes) | Leaf::Bytes(bytes) | Leaf::Bits(_, bytes) => bytes.len(),
             _ => 0,
         }
     }
@@ -94,6 +114,11 @@ impl<'b> Leaf<'b> {
                 let len = put_run(pool, bytes)?;
                 Ok(Content::Bytes { start, len })
             }
+            Leaf::Bits(count, bytes) => {
+                let len = put_run(pool, bytes)?;
+                let unused = (8 * u64::from(len)).saturating_sub(u64::from(count)) as u8;
+                Ok(Content::Bits { unused, len, start })
+            }
             Leaf::Wide(bytes) => {
                 put_run(pool, bytes)?;
                 Ok(Content::Wide { start })
@@ -110,12 +135,7 @@ impl<'b> Leaf<'b> {
                     start: put_long(pool, x)?,
                 }),
             },
-            Leaf::Signed(x) => match short_signed(x) {
-                Some(x) => Ok(Content::Signed(x)),
-                None => Ok(Content::LongSigned {
-                    start: put_long(pool, x.cast_unsigned())?,
-                }),
-            },
+            Leaf::Signed(x) => keep_signed(x, pool),
         }
     }
 }

@@ -18,7 +18,7 @@ pub use leaf::Leaf;
 pub use node::{Content, NODE_BYTES, Node};
 pub use node_ref::NodeRef;
 pub use open_run::OpenRun;
-pub use pool::{long_at, put_piece};
+pub use pool::{bit_count, long_at, put_piece};
 pub use remaining::{Frame, Remaining};
 pub use scale_core::{WriteFault, send};
 pub use value::Value;

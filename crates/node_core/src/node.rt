@@ -34,6 +34,8 @@ pub enum Content {
     Text { len: u32, start: usize },
     /// A sequence or an array of this many u8.
     Bytes { len: u32, start: usize },
+    /// A bit sequence in words of this many bytes, of whose bits so many are unused.
+    Bits { unused: u8, len: u32, start: usize },
     /// An unsigned integer.
     Unsigned(u64),
     /// A compact integer.

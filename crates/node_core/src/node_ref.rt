@@ -2,11 +2,12 @@
 
 ghost use Rattle.std.specs.Prelude.{◌≡◌, option_map};
 ghost use Rattle.node_core.specs.Shown.{IsWhole, IsValue, seen, bytes_of, children_of, text_of};
+ghost use Rattle.node_core.specs.Shown.{words_of};
 ghost use Rattle.node_core.specs.Whats.{what_of};
 
 use crate::children::Children;
 use crate::node::{Content, Node};
-use crate::pool::long_at;
+use crate::pool::{bit_count, long_at};
 use crate::what::What;
 use std::marker::Model;
 use types_core::TypeId;
@@ -91,6 +92,7 @@ impl<'v, 'r> NodeRef<'v, 'r> {
             Content::Arm { position, .. } => What::Arm { position },
             Content::List { .. } => What::List,
             Content::Count(count) => What::Count(count),
+            Content::Bits { unused, len, .. } => What::Bits(bit_count(unused, len)),
         }
     }
 
@@ -115,6 +117,17 @@ impl<'v, 'r> NodeRef<'v, 'r> {
     {
         match self.nodes[0].content {
             Content::Bytes { start, len } => Some(&self.pool[start..start + len as usize]),
+            _ => None,
+        }
+    }
+
+    /// Returns the bytes of the words if the node is a bit sequence.
+    #[inline(always)]
+    pub fn words(&self) -> Option<&'v [u8]>
+        ensures { option_map (λ s. s.now) result ≡ words_of self.now.tree }
+    {
+        match self.nodes[0].content {
+            Content::Bits { start, len, .. } => Some(&self.pool[start..start + len as usize]),
             _ => None,
         }
     }

@@ -13,7 +13,7 @@ pub struct OpenRun {
     pub kind: RunKind,
     /// The position of its first byte in the pool.
     pub start: usize,
-    /// Its length when complete, in bytes.
+    /// Its length when complete: the number of its bytes, or of its bits.
     pub len: u32,
 }
 
@@ -26,6 +26,11 @@ impl OpenRun {
         match kind {
             RunKind::Text => Content::Text { start, len },
             RunKind::Bytes | RunKind::ByteArray(_) => Content::Bytes { start, len },
+            RunKind::Bits(form) => Content::Bits {
+                unused: form.unused(len),
+                len: form.bytes(len) as u32,
+                start,
+            },
         }
     }
 }

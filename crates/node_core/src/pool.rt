@@ -1,6 +1,7 @@
 //! Texts, runs of bytes and long integers in the pool beside a value's nodes.
 
-ghost use Rattle.std.specs.Prelude.{◌≡◌, ◌<◌, ◌≤◌, ◌+◌, ◌^◌, ◌++◌, length, IfOk, IfErr, OnOk};
+ghost use Rattle.std.specs.Prelude.{◌≡◌, ◌<◌, ◌≤◌, ◌+◌, ◌-◌, ◌*◌, ◌^◌, ◌++◌, length, IfOk, IfErr};
+ghost use Rattle.std.specs.Prelude.{OnOk};
 ghost use Rattle.std.specs.Prelude.{OnErr};
 ghost use Rattle.std.specs.Int.{w128, to_le_bytes};
 ghost use Rattle.node_core.specs.Shown.{long_shown};
@@ -39,6 +40,14 @@ pub(crate) fn put_run<A: Allocator>(
 #[inline(always)]
 fn missing<A: Allocator>(pool: &GrowVec<u8, A>, whole: usize) -> usize {
     whole.saturating_sub(pool.len()).max(pool.len() / 8)
+}
+
+/// Returns how many bits words of this many bytes stand for, if so many are unused.
+pub fn bit_count(unused: u8, len: u32) -> u32
+    requires { 8 * len < 2 ^ 32 + unused }
+    ensures { result ≡ 8 * len - unused }
+{
+    (8 * u64::from(len)).saturating_sub(u64::from(unused)) as u32
 }
 
 /// Appends a piece of a run at whose end the pool has `whole` bytes.

@@ -32,4 +32,8 @@ pub enum What {
     List,
     /// A sequence of this many elements that take no bytes.
     Count(u32),
+    /// A bit sequence of this many bits; [`NodeRef::words`](crate::NodeRef::words) returns the
+    /// bytes of its words, and [`BitForm`](types_core::BitForm) in its type's definition says where
+    /// each bit stands in them.
+    Bits(u32),
 }

@@ -12,7 +12,7 @@ ghost use Rattle.node_core.specs.Shown.{IsInPool, kept_bytes};
 ghost use Rattle.node_core.specs.Encoding.{node_bytes, pool_bytes, Starts, encoding, IsEncoding};
 
 use crate::node::{Content, Node};
-use crate::pool::long_at;
+use crate::pool::{bit_count, long_at};
 use crate::value::Value;
 use scale_core::{Sink, WriteFault, WriteOnce, put_compact, send};
 use std::alloc::Allocator;
@@ -134,20 +134,23 @@ fn put_node(checked: &Checked, node: &Node, pool: &[u8], out: &mut [u8; 17]) -> 
         Content::Arm { position, .. } => put_index(checked, node.ty, position, out),
         Content::List { .. } => put_length(checked, node.ty, node.children, out),
         Content::Count(count) => put_compact(u128::from(count), out),
+        Content::Bits { unused, len, .. } => {
+            put_compact(u128::from(bit_count(unused, len)), out)
+        }
     }
 }
 
-/// Returns the bytes of a node that lie in the pool as they are written: a text, a run of bytes or
-/// a 256-bit integer. Another node has none.
+/// Returns the bytes of a node that lie in the pool as they are written: a text, a run of bytes,
+/// the words of bits or a 256-bit integer. Another node has none.
 #[inline(always)]
 pub fn pooled<'v>(node: &Node, pool: &'v [u8]) -> &'v [u8]
     requires { IsInPool pool.now node.now.content }
     ensures { result.now ≡ pool_bytes pool.now node.now.content }
 {
     match node.content {
-        Content::Text { start, len } | Content::Bytes { start, len } => {
-            &pool[start..start + len as usize]
-        }
+        Content::Text { start, len }
+        | Content::Bytes { start, len }
+        | Content::Bits { start, len, .. } => { &pool[start..start + len as usize] }
         Content::Wide { start } => &pool[start..start + 32],
         _ => &pool[..0],
     }

@@ -1,5 +1,6 @@
 -- What is taken, by the fault alone.
-use Rattle.std.proofs.Common.{◌≡◌, ℕ, zero, suc, ◌+◌, ◌^◌, ◌≤◌, Bool, true, false, cond, List, []}
+use Rattle.std.proofs.Common.{◌≡◌, ℕ, zero, suc, ◌+◌, ◌^◌, ◌<◌, ◌≤◌, Bool, true, false, cond, List}
+use Rattle.std.proofs.Common.{[]}
 use Rattle.std.proofs.Common.{◌∷◌, ◌++◌, length, take, drop, Option, Some, None, Ok, Err, refl, ap}
 use Rattle.std.proofs.Common.{◌∙◌, arith, inl, inr}
 use Rattle.std.specs.Prelude.{◌≢◌, nat_lt, not}
@@ -18,6 +19,9 @@ use Rattle.scale_core.proofs.Results.{Takes, compact_takes}
 use Rattle.scale_core.specs.Read.{place}
 use Rattle.std.proofs.lemmas.Str.{utf8_valid_len_le}
 use Rattle.std.proofs.lemmas.List.{length-append, length-drop, length-take}
+use Rattle.types_core.specs.Bits.{bits_bytes, first_unused}
+use Rattle.types_core.specs.declared.bits.BitForm.{BitForm}
+use Rattle.types_core.proofs.BitWords.{unused_within}
 use Rattle.types_core.specs.declared.definition.Arm.{Arm}
 use Rattle.types_core.specs.declared.type_info.TypeInfo.{TypeInfo}
 use Rattle.graph_core.specs.Types.{field_types}
@@ -33,15 +37,17 @@ use Rattle.grammar_core.specs.Ways.{bool_fault, leaf_of, leaf_by, judged_leaf}
 use Rattle.grammar_core.specs.Reading.{value_at, layout_at, leaf_at, all_at, times_at}
 use Rattle.grammar_core.specs.Reading.{fields_after_index, arms_at, as_leaf, with_children, Refusal}
 use Rattle.grammar_core.specs.Reading.{basic, no_finite_value}
-use Rattle.grammar_core.specs.Runs.{run_at, run_judged, run_leaf, run_length_at}
+use Rattle.grammar_core.specs.Runs.{body_at, run_at, run_judged, run_leaf, run_length_at, words_at}
 use Rattle.grammar_core.proofs.Runs.{length_takes}
 use Rattle.grammar_core.proofs.Sound.{value_takes}
 use Rattle.outcome_core.specs.Taken.{leaf_taken, taken_by, taken_after, compact_taken}
-use Rattle.outcome_core.specs.Taken.{run_length_taken, run_taken, all_taken, times_taken, arm_taken}
+use Rattle.outcome_core.specs.Taken.{body_taken, words_taken, run_length_taken, run_taken}
+use Rattle.outcome_core.specs.Taken.{all_taken, times_taken, arm_taken}
 use Rattle.outcome_core.specs.Taken.{arms_taken, layout_taken, value_taken}
 use Rattle.outcome_core.specs.Outcome.{IsTakenBefore, TakenByFault}
 use Rattle.outcome_core.proofs.DecidingFronts.{chain, finish, bind_chain}
-use Rattle.outcome_core.proofs.Shortest.{and_finish, elements_chain, body_at}
+use Rattle.outcome_core.proofs.Shortest.{and_finish, counted_body, counted_finish, elements_chain}
+use Rattle.outcome_core.proofs.Shortest.{judged_at}
 
 -- the fault stands within b, and k is what it takes
 abbrev pub ReportedWithin : {E X : Type 0} → (E → Refusal) → List ℕ → ℕ → Read E X → Type 0
@@ -130,6 +136,7 @@ run_length_reported : (k : RunKind) (b : List ℕ) →
 run_length_reported kind.Text b = compact_reported target.U32 b
 run_length_reported kind.Bytes b = compact_reported target.U32 b
 run_length_reported (kind.ByteArray n) b = tt
+run_length_reported (kind.Bits f) b = compact_reported target.U32 b
 
 -- a run whose bytes are all there and are refused is taken to its end
 judged_reported : (k : RunKind) (n : ℕ) (b : List ℕ) → n ≤ length b →
@@ -144,12 +151,12 @@ judged_reported kind.Text n b le = valid (is_utf8 (take n b)) where
       omega (arith, utf8_valid_len_le (take n b), length-take n b) in
       let rest = length-drop (utf8_valid_len (take n b)) b in
       (omega (arith, rest), omega (arith, rest, front))
-judged_reported kind.Bytes n b le = tt
-judged_reported (kind.ByteArray m) n b le = tt
+judged_reported _ n b le = tt
 
--- the same for the bytes of a run, whether or not they are all there
-body_reported : (k : RunKind) (n : ℕ) (b : List ℕ) → ReportedWithin basic b n (body_at k n b)
-body_reported k n b = go (nat_lt (length b) n) refl where
+-- the same whether or not the run's bytes are all there
+all_reported_by : (k : RunKind) (n : ℕ) (b : List ℕ) →
+    ReportedWithin basic b n (judged_at k n b)
+all_reported_by k n b = go (nat_lt (length b) n) refl where
   go : (short : Bool) → nat_lt (length b) n ≡ short →
       ReportedWithin basic b n
       (cond short (Err (reasons.Truncated, [])) (Ok (take n b, drop n b)) >>=
@@ -157,12 +164,43 @@ body_reported k n b = go (nat_lt (length b) n) refl where
   go true e = (omega arith, refl)
   go false e = judged_reported k n b (ltb-false _ _ e)
 
+-- words are taken up to the first byte with an unused bit that is 1
+words_reported : (f : BitForm) (n : ℕ) (b : List ℕ) →
+    ReportedWithin basic b (body_taken (kind.Bits f) n b) (body_at (kind.Bits f) n b)
+unfolding body_at
+words_reported f n b = go (first_unused f n 0 (take (bits_bytes f n) b)) refl where
+  short : (t : Bool) → ReportedWithin basic b (bits_bytes f n)
+      (cond t (Err (reasons.Truncated, [])) (Ok (take (bits_bytes f n) b, drop (bits_bytes f n) b)))
+  short true = (omega arith, refl)
+  short false = tt
+
+  go : (o : Option ℕ) → first_unused f n 0 (take (bits_bytes f n) b) ≡ o →
+      ReportedWithin basic b (words_taken o (bits_bytes f n)) (words_at o (bits_bytes f n) b)
+  go (Some i) e =
+      let within : i < length (take (bits_bytes f n) b) =
+      unused_within f n 0 (take (bits_bytes f n) b) i e in
+      let there : i < length b = omega (arith, within, length-take (bits_bytes f n) b) in
+      (omega (arith, length-drop i b), omega (arith, length-drop i b, there))
+  go None e = short (nat_lt (length b) (bits_bytes f n))
+
+-- the fault of a run's bytes reports what is taken
+body_reported : (k : RunKind) (n : ℕ) (b : List ℕ) →
+    ReportedWithin basic b (body_taken k n b) (body_at k n b)
+unfolding body_at
+body_reported kind.Text n b = all_reported_by kind.Text n b
+body_reported kind.Bytes n b = all_reported_by kind.Bytes n b
+body_reported (kind.ByteArray m) n b = all_reported_by (kind.ByteArray m) n b
+body_reported (kind.Bits f) n b = words_reported f n b
+
 -- a run's fault, in its length or its bytes, reports what is taken
 run_reported : (k : RunKind) (b : List ℕ) → ReportedWithin basic b (run_taken k b) (run_at k b)
 unfolding run_at
-run_reported k b = rw (bind_chain (body_at k) (run_length_at k b))
-    (chain_reported (λ e. e) basic _ (body_at k) (λ n. n.0) b (run_length_taken k b)
-    (run_length_at k b) (length_takes k b) (run_length_reported k b) (λ n. body_reported k n.0 n.1))
+run_reported k b = rw (bind_chain (counted_body k) (run_length_at k b))
+    (chain_reported (λ e. e) basic _ (counted_body k) (λ n. body_taken k n.0 n.1) b
+    (run_length_taken k b) (run_length_at k b) (length_takes k b) (run_length_reported k b)
+    (λ n. rw (counted_finish n.0 (body_at k n.0 n.1))
+    (finish_reported (λ e. e) basic (λ s. (n.0, s)) n.1 (body_taken k n.0 n.1) (body_at k n.0 n.1)
+    (body_reported k n.0 n.1))))
 
 -- bytes are refused for a reason by which all of them are taken, and which is not that bytes are
 -- missing

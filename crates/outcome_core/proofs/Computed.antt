@@ -97,6 +97,8 @@ refusal_is j input (basic scale.BadChar) left e =
     refused_is j input (basic scale.BadChar) left (λ q. absurd cc) e
 refusal_is j input (basic scale.BadUtf8) left e =
     refused_is j input (basic scale.BadUtf8) left (λ q. absurd cc) e
+refusal_is j input (basic scale.UnusedBits) left e =
+    refused_is j input (basic scale.UnusedBits) left (λ q. absurd cc) e
 refusal_is j input (basic scale.CompactNotShortest) left e =
     refused_is j input (basic scale.CompactNotShortest) left (λ q. absurd cc) e
 refusal_is j input (basic scale.CompactTooLarge) left e =

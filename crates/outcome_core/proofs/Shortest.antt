@@ -1,21 +1,20 @@
 -- What is taken where a value is refused is the shortest front that is refused so.
-use Rattle.std.proofs.Common.{◌≡◌, ℕ, zero, suc, ◌+◌, ◌-◌, ◌/◌, ◌%◌, ◌^◌, ◌<◌, ◌≤◌, ◌⊎◌, Bool, true}
+use Rattle.std.proofs.Common.{◌≡◌, ℕ, zero, suc, ◌<◌, ◌≤◌, ◌⊎◌, Bool, true}
 use Rattle.std.proofs.Common.{false, cond, List, [], ◌∷◌, length, take, drop, Option, Some, None}
-use Rattle.std.proofs.Common.{Ok, Err, refl, sym, ap, ◌∙◌, arith, inl, inr}
-use Rattle.std.specs.Prelude.{◌≢◌, ◌==◌, nat_lt, not}
-use Rattle.std.specs.Str.{bytes_eq, is_utf8}
+use Rattle.std.proofs.Common.{Ok, Err, refl, sym, ◌∙◌, arith, inl, inr}
+use Rattle.std.specs.Prelude.{◌≢◌}
+use Rattle.std.specs.Str.{is_utf8}
 use Rattle.std.specs.Str.Lossy.{utf8_valid_len}
-use Rattle.std.proofs.lemmas.Bool.{cases_lt, le-ltb, lt-ltb}
-use Rattle.std.proofs.lemmas.List.{append-nil, length-take-le}
-use Rattle.scale_core.specs.Compact.{compact, target_bytes}
-use Rattle.scale_core.specs.Read.{Read, ◌>>=◌, bytes_at, compact_at, integer_at, checked_mode}
-use Rattle.scale_core.specs.Read.{mode_from, mode_number, is_too_long, mode_len}
-use Rattle.scale_core.specs.declared.compact.Target.{Target}
+use Rattle.std.proofs.lemmas.Bool.{cases_lt, le-ltb}
+use Rattle.std.proofs.lemmas.List.{length-take, length-take-le, take-take, take_all}
+use Rattle.scale_core.specs.Read.{Read, ◌>>=◌, bytes_at, compact_at}
 use Rattle.scale_core.specs.declared.compact.Target.TheVariants as target
 use Rattle.scale_core.specs.declared.fault.Reason.{Reason}
 use Rattle.scale_core.specs.declared.fault.Reason.TheVariants as reasons
-use Rattle.scale_core.proofs.Again.{bytes_again, compact_again}
-use Rattle.scale_core.proofs.Results.{compact_takes, compact_extends, mapped}
+use Rattle.scale_core.proofs.Results.{mapped}
+use Rattle.types_core.specs.Bits.{bits_bytes, first_unused}
+use Rattle.types_core.specs.declared.bits.BitForm.{BitForm}
+use Rattle.types_core.proofs.BitWords.{unused_before, unused_front, unused_within}
 use Rattle.types_core.specs.declared.definition.Arm.{Arm}
 use Rattle.types_core.specs.declared.type_info.TypeInfo.{TypeInfo}
 use Rattle.graph_core.specs.Types.{field_types}
@@ -34,146 +33,19 @@ use Rattle.grammar_core.specs.Reading.{value_at, layout_at, leaf_at, all_at}
 use Rattle.grammar_core.specs.Reading.{times_at, fields_after_index, arms_at, elements_at, as_leaf}
 use Rattle.grammar_core.specs.Reading.{with_children, Refusal, basic, too_deep}
 use Rattle.grammar_core.specs.Reading.{no_finite_value, bit_sequence, bad_compact, truncated}
-use Rattle.grammar_core.specs.Runs.{run_at, run_judged, run_leaf, run_length_at}
+use Rattle.grammar_core.specs.Runs.{body_at, run_at, run_judged, run_leaf, run_length_at, words_at}
 use Rattle.grammar_core.proofs.Runs.{length_again, length_extends, length_takes}
 use Rattle.grammar_core.proofs.Sound.{value_takes}
 use Rattle.grammar_core.proofs.Complete.{value_again}
 use Rattle.grammar_core.proofs.Stable.{value_extends}
 use Rattle.outcome_core.specs.Taken.{leaf_taken, taken_by, compact_taken, run_length_taken}
-use Rattle.outcome_core.specs.Taken.{run_taken, all_taken, times_taken, arm_taken, arms_taken}
+use Rattle.outcome_core.specs.Taken.{body_taken, words_taken, run_taken, all_taken, times_taken}
+use Rattle.outcome_core.specs.Taken.{arm_taken, arms_taken}
 use Rattle.outcome_core.specs.Taken.{layout_taken, value_taken}
 use Rattle.outcome_core.proofs.DecidingFronts.{DecidedBy, IsStable, chain, finish, bind_chain}
 use Rattle.outcome_core.proofs.DecidingFronts.{finish_decided, chain_decided, cons_decided}
-
--- ---- compacts
-
--- a reason is either that bytes are missing or another one
-pub reason_reports : (e : Reason) → (e ≡ reasons.Truncated) ⊎ (e ≢ reasons.Truncated)
-reason_reports reasons.Truncated = inl refl
-reason_reports _ = inr (λ e. absurd cc)
-
--- a compact is read, or refused for good, whatever follows it
-compact_steady : (m : Target) → IsStable reasons.Truncated (compact_at m)
-compact_steady m = record {
-  reports = reason_reports;
-  extends = compact_extends m;
-  exact = λ b. mapped _ _ b (compact_at m b) (compact_takes m b)
-      (λ x c is more. compact_again m x c more is);
-}
-
--- a compact has a byte at least
-mode_len-pos : (first : ℕ) → 1 ≤ mode_len first
-mode_len-pos first = go (first % 4 == 0) (first % 4 == 1) (first % 4 == 2) where
-  go : (a b c : Bool) → 1 ≤ cond a 1 (cond b 2 (cond c 4 (first / 4 + 5)))
-  go true b c = omega arith
-  go false true c = omega arith
-  go false false true = omega arith
-  go false false false = omega arith
-
--- where fewer bytes are there than are wanted, they are cut at their end
-pub short_bytes : (k : ℕ) (b : List ℕ) → length b < k → bytes_at k b ≡ Err (reasons.Truncated, [])
-short_bytes k b lt = rw (lt-ltb (length b) k lt) refl
-
--- where just as many bytes are there as are wanted, all are read
-pub whole_bytes : (k : ℕ) (b : List ℕ) → length b ≡ k → bytes_at k b ≡ Ok (b, [])
-whole_bytes k b len = ap (bytes_at k) (sym (append-nil b)) ∙ bytes_again k b [] len
-
--- as many bytes as are wanted are read of just these
-taken_bytes : (k : ℕ) (b : List ℕ) → k ≤ length b → bytes_at k (take k b) ≡ Ok (take k b, [])
-taken_bytes k b le = whole_bytes k (take k b) (length-take-le k b le)
-
--- a compact that has fewer bytes than its first one says is cut
-short_mode : (m : Target) (first : ℕ) (tail : List ℕ) → is_too_long m first ≡ false →
-    length (first ∷ tail) < mode_len first →
-    integer_at m (first ∷ tail) ≡ Err (reasons.Truncated, [])
-short_mode m first tail e lt = rw (e, short_bytes (mode_len first) (first ∷ tail) lt) refl
-
--- a compact that has as many bytes as its first one says is judged by them, and none is left
-whole_form : (m : Target) (first : ℕ) (tail : List ℕ) → is_too_long m first ≡ false →
-    length (first ∷ tail) ≡ mode_len first →
-    integer_at m (first ∷ tail) ≡ checked_mode m (first ∷ tail) (mode_number (first ∷ tail))
-    (first ∷ tail) []
-whole_form m first tail e len = rw (e, whole_bytes (mode_len first) (first ∷ tail) len) refl
-
--- some first bytes of a list, one at least, begin with its first byte
-take_cons : (k first : ℕ) (tail : List ℕ) → 1 ≤ k →
-    take k (first ∷ tail) ≡ first ∷ take (k - 1) tail
-take_cons zero first tail h = absurd (omega arith)
-take_cons (suc k) first tail h = ap (λ (i : ℕ). first ∷ take i tail) (omega arith)
-
--- a compact whose bytes are all there is decided by them and by no fewer
-form_decided : (m : Target) (first : ℕ) (tail : List ℕ) → is_too_long m first ≡ false →
-    mode_len first ≤ length (first ∷ tail) →
-    DecidedBy reasons.Truncated (integer_at m) (first ∷ tail) (mode_len first)
-    (checked_mode m (first ∷ tail) (mode_number (take (mode_len first) (first ∷ tail)))
-    (take (mode_len first) (first ∷ tail)) (drop (mode_len first) (first ∷ tail)))
-form_decided m first tail e le =
-    go (not (bytes_eq (compact (mode_number form)) form))
-    (nat_lt (mode_number form) (256 ^ target_bytes m)) refl refl where
-      form : List ℕ
-      form = take (mode_len first) (first ∷ tail)
-
-      split : form ≡ first ∷ take (mode_len first - 1) tail
-      split = take_cons (mode_len first) first tail (mode_len-pos first)
-
-      whole : integer_at m form ≡ checked_mode m form (mode_number form) form []
-      whole =
-          let len : length (first ∷ take (mode_len first - 1) tail) ≡ mode_len first =
-          sym (ap length split) ∙ length-take-le (mode_len first) (first ∷ tail) le in
-          ap (integer_at m) split ∙ whole_form m first (take (mode_len first - 1) tail) e len
-          ∙ ap (λ (z : List ℕ). checked_mode m z (mode_number z) z []) (sym split)
-
-      early : (j : ℕ) → j < mode_len first → (left : List ℕ)
-          × (integer_at m (take j (first ∷ tail)) ≡ Err (reasons.Truncated, left))
-      early zero lt = ([], refl)
-      early (suc j) lt = (
-        [],
-        short_mode m first (take j tail) e
-            (omega (arith, length-take-le (suc j) (first ∷ tail) (omega arith))),
-      )
-
-      go : (a b : Bool) → not (bytes_eq (compact (mode_number form)) form) ≡ a →
-          nat_lt (mode_number form) (256 ^ target_bytes m) ≡ b →
-          DecidedBy reasons.Truncated (integer_at m) (first ∷ tail) (mode_len first)
-          (cond a (Err (reasons.CompactNotShortest, first ∷ tail))
-          (cond b (Ok (mode_number form, drop (mode_len first) (first ∷ tail)))
-          (Err (reasons.CompactTooLarge, first ∷ tail))))
-      go true b p q = λ ne. record { there = le; front = (form, whole ∙ rw p refl); early = early }
-      go false true p q = tt
-      go false false p q = λ ne. record {
-        there = le;
-        front = (form, whole ∙ rw (p, q) refl);
-        early =
-            early;
-      }
-
--- a compact integer that is refused for good is decided by what is said to be taken
-integer_decided : (m : Target) (b : List ℕ) →
-    DecidedBy reasons.Truncated (integer_at m) b (compact_taken m b) (integer_at m b)
-integer_decided m [] = λ ne. absurd (ne refl)
-integer_decided m (first ∷ tail) = go (is_too_long m first) refl where
-  one : is_too_long m first ≡ true → (j : ℕ) → j < 1 → (left : List ℕ)
-      × (integer_at m (take j (first ∷ tail)) ≡ Err (reasons.Truncated, left))
-  one e zero lt = ([], refl)
-  one e (suc j) lt = absurd (omega arith)
-
-  go : (t : Bool) → is_too_long m first ≡ t →
-      DecidedBy reasons.Truncated (integer_at m) (first ∷ tail) (cond t 1 (mode_len first))
-      (cond t (Err (reasons.CompactTooLarge, first ∷ tail))
-      (mode_from m (first ∷ tail) (bytes_at (mode_len first) (first ∷ tail))))
-  go true e = λ ne. record { there = omega arith; front = (first ∷ [], rw e refl); early = one e }
-  go false e = elim (cases_lt (length (first ∷ tail)) (mode_len first)) [
-    | inl lt ↦ rw (short_bytes (mode_len first) (first ∷ tail) lt) (λ ne. absurd (ne refl))
-    | inr le ↦ rw (le-ltb (length (first ∷ tail)) (mode_len first) le)
-        (form_decided m first tail e le)
-  ]
-
--- the same for a compact of any target
-compact_decided : (m : Target) (b : List ℕ) →
-    DecidedBy reasons.Truncated (compact_at m) b (compact_taken m b) (compact_at m b)
-unfolding compact_at
-compact_decided target.Unit b = tt
-compact_decided m b = integer_decided m b
+use Rattle.outcome_core.proofs.ShortestCompacts.{reason_reports, compact_steady, short_bytes}
+use Rattle.outcome_core.proofs.ShortestCompacts.{taken_bytes, compact_decided}
 
 -- ---- runs, bools, chars
 
@@ -192,17 +64,18 @@ run_length_decided : (k : RunKind) (b : List ℕ) →
 run_length_decided kind.Text b = compact_decided target.U32 b
 run_length_decided kind.Bytes b = compact_decided target.U32 b
 run_length_decided (kind.ByteArray n) b = tt
+run_length_decided (kind.Bits f) b = compact_decided target.U32 b
 
--- the bytes of a run after its length
-abbrev pub body_at : RunKind → ℕ → List ℕ → Read Reason (List ℕ)
-body_at k n b = bytes_at n b >>= λ s. run_judged k b s
+-- n bytes, which are judged when all are there
+abbrev pub judged_at : RunKind → ℕ → List ℕ → Read Reason (List ℕ)
+judged_at k n b = bytes_at n b >>= λ s. run_judged k b s
 
 -- a run whose bytes are all there is refused at its end, by all of them
 judged_decided : (k : RunKind) (n : ℕ) (b : List ℕ) → n ≤ length b →
-    DecidedBy reasons.Truncated (body_at k n) b n (run_judged k b (take n b, drop n b))
+    DecidedBy reasons.Truncated (judged_at k n) b n (run_judged k b (take n b, drop n b))
 judged_decided kind.Text n b le = go (is_utf8 (take n b)) refl where
   go : (t : Bool) → is_utf8 (take n b) ≡ t →
-      DecidedBy reasons.Truncated (body_at kind.Text n) b n
+      DecidedBy reasons.Truncated (judged_at kind.Text n) b n
       (cond t (Ok (take n b, drop n b)) (Err (reasons.BadUtf8, drop (utf8_valid_len (take n b)) b)))
   go true e = tt
   go false e = λ ne. record {
@@ -215,23 +88,92 @@ judged_decided kind.Text n b le = go (is_utf8 (take n b)) refl where
     );
   }
 judged_decided kind.Bytes n b le = tt
-judged_decided (kind.ByteArray m) n b le = tt
+judged_decided _ n b le = tt
 
 -- the same whether or not the run's bytes are all there
-body_decided : (k : RunKind) (n : ℕ) (b : List ℕ) →
-    DecidedBy reasons.Truncated (body_at k n) b n (body_at k n b)
-body_decided k n b = elim (cases_lt (length b) n) [
+all_decided_by : (k : RunKind) (n : ℕ) (b : List ℕ) →
+    DecidedBy reasons.Truncated (judged_at k n) b n (judged_at k n b)
+all_decided_by k n b = elim (cases_lt (length b) n) [
   | inl lt ↦ rw (short_bytes n b lt) (λ ne. absurd (ne refl))
   | inr le ↦ rw (le-ltb (length b) n le) (judged_decided k n b le)
 ]
+
+-- words are decided by the first byte with an unused bit that is 1, or by all bytes
+words_decided : (f : BitForm) (n : ℕ) (b : List ℕ) →
+    DecidedBy reasons.Truncated (body_at (kind.Bits f) n) b (body_taken (kind.Bits f) n b)
+    (body_at (kind.Bits f) n b)
+unfolding body_at
+words_decided f n b = go (first_unused f n 0 (take (bits_bytes f n) b)) refl where
+  -- the words of a short front are that front
+  front_is : (j : ℕ) → j ≤ bits_bytes f n →
+      take (bits_bytes f n) (take j b) ≡ take j (take (bits_bytes f n) b)
+  front_is j le = take_all (bits_bytes f n) (take j b) (omega (arith, length-take j b, le))
+      ∙ sym (take-take j (bits_bytes f n) b le)
+
+  go : (o : Option ℕ) → first_unused f n 0 (take (bits_bytes f n) b) ≡ o →
+      DecidedBy reasons.Truncated (body_at (kind.Bits f) n) b (words_taken o (bits_bytes f n))
+      (words_at o (bits_bytes f n) b)
+  go (Some i) e =
+      let within : i < length (take (bits_bytes f n) b) =
+      unused_within f n 0 (take (bits_bytes f n) b) i e in
+      let len = length-take (bits_bytes f n) b in
+      λ ne. record {
+        there = omega (arith, within, len);
+        front = (
+          drop i (take (suc i) b),
+          rw (
+            front_is (suc i) (omega (arith, within, len)),
+            unused_front f n 0 (take (bits_bytes f n) b) i e,
+          ) refl,
+        );
+        early = λ j lt. (
+          [],
+          rw (
+            front_is j (omega (arith, lt, within, len)),
+            unused_before f n 0 (take (bits_bytes f n) b) i j e (omega (arith, lt)),
+          )
+              (short_bytes (bits_bytes f n) (take j b)
+              (omega (arith, length-take j b, lt, within, len))),
+        );
+      }
+  go None e = elim (cases_lt (length b) (bits_bytes f n)) [
+    | inl lt ↦ rw (short_bytes (bits_bytes f n) b lt) (λ ne. absurd (ne refl))
+    | inr le ↦ rw (le-ltb (length b) (bits_bytes f n) le) tt
+  ]
+
+-- the bytes of a run that are refused for good are decided by what is taken
+body_decided : (k : RunKind) (n : ℕ) (b : List ℕ) →
+    DecidedBy reasons.Truncated (body_at k n) b (body_taken k n b) (body_at k n b)
+unfolding body_at
+body_decided kind.Text n b = all_decided_by kind.Text n b
+body_decided kind.Bytes n b = all_decided_by kind.Bytes n b
+body_decided (kind.ByteArray m) n b = all_decided_by (kind.ByteArray m) n b
+body_decided (kind.Bits f) n b = words_decided f n b
+
+-- the bytes of a run, with its length
+abbrev pub counted : ℕ → List ℕ × List ℕ → Read Reason (ℕ × List ℕ)
+counted n s = Ok ((n, s.0), s.1)
+
+abbrev pub counted_body : RunKind → ℕ → List ℕ → Read Reason (ℕ × List ℕ)
+counted_body k n b = body_at k n b >>= counted n
+
+-- the bytes of a run with its length are those of the run, or its fault
+pub counted_finish : (n : ℕ) (r : Read Reason (List ℕ)) →
+    (r >>= counted n) ≡ finish (λ e. e) (λ (s : List ℕ). (n, s)) r
+counted_finish n (Ok s) = refl
+counted_finish n (Err e) = refl
 
 -- a run that is refused for good, in its length or its bytes, is decided by what is taken
 run_decided : (k : RunKind) (b : List ℕ) →
     DecidedBy reasons.Truncated (run_at k) b (run_taken k b) (run_at k b)
 unfolding run_at
-run_decided k b = chain_decided reasons.Truncated (λ e. e) (run_at k) (run_length_at k) (body_at k)
-    (λ n. n.0) (λ b. bind_chain (body_at k) (run_length_at k b)) (run_length_steady k) b
-    (run_length_taken k b) (run_length_decided k b) (λ n. body_decided k n.0 n.1)
+run_decided k b = chain_decided reasons.Truncated (λ e. e) (run_at k) (run_length_at k)
+    (counted_body k) (λ n. body_taken k n.0 n.1)
+    (λ b. bind_chain (counted_body k) (run_length_at k b)) (run_length_steady k) b
+    (run_length_taken k b) (run_length_decided k b)
+    (λ n. finish_decided reasons.Truncated (λ e. e) (λ s. (n.0, s)) (counted_body k n.0)
+    (body_at k n.0) (λ c. counted_finish n.0 (body_at k n.0 c)) n.1 (body_taken k n.0 n.1)
+    (body_decided k n.0 n.1))
 
 -- a fact of no bytes holds of each front with fewer bytes than one
 below_one : (b : List ℕ) (P : List ℕ → Type 0) → P [] → (j : ℕ) → j < 1 → P (take j b)

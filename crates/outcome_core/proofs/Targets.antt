@@ -4,6 +4,7 @@ use Rattle.std.proofs.Common.{None, refl, sym, ap, ◌∙◌}
 use Rattle.std.specs.Prelude.{◌≢◌, if◌then◌else◌}
 use Rattle.scale_core.specs.declared.compact.Target.{Target}
 use Rattle.scale_core.specs.declared.compact.Target.TheVariants as target
+use Rattle.types_core.specs.declared.bits.BitForm.{BitForm}
 use Rattle.types_core.specs.declared.definition.TypeDef.{TypeDef}
 use Rattle.types_core.specs.declared.definition.TypeDef.TheVariants as Def
 use Rattle.types_core.specs.declared.type_id.TypeId.{TypeId}
@@ -13,8 +14,8 @@ use Rattle.widths_core.specs.Layouts.{is_byte}
 use Rattle.widths_core.specs.Targets.{target_of}
 use Rattle.widths_core.specs.Classes.{is_empty, empty_within, empty_step, is_unit}
 use Rattle.widths_core.proofs.Ranks.{holds_at-shape}
-use Rattle.grammar_core.specs.Forms.{form_of, form_of_shape, array_form, sequence_form}
-use Rattle.grammar_core.specs.Forms.{compact_form}
+use Rattle.grammar_core.specs.Forms.{bits_form, form_of, form_of_shape, array_form, sequence_form}
+use Rattle.grammar_core.specs.Forms.{bits_form, compact_form}
 use Rattle.grammar_core.specs.declared.form.Form.TheVariants as form
 use Rattle.grammar_core.specs.declared.form.Next.TheVariants as next
 
@@ -35,6 +36,12 @@ no_array : {X : Type 0} (m : Target) (n : ℕ) (byte : Bool) →
 no_array m n true e = absurd cc
 no_array m n false e = absurd cc
 
+-- the form of a bit sequence is no compact either
+no_bits : {X : Type 0} (m : Target) (o : Option BitForm) →
+    bits_form o ≡ next.Wants (form.Compact m) → X
+no_bits m (Some bits) e = absurd cc
+no_bits m None e = absurd cc
+
 -- a compact that is wanted for a target leads to that target
 same_target : (m : Target) (o : Option Target) → compact_form o ≡ next.Wants (form.Compact m) →
     o ≡ Some m
@@ -53,7 +60,7 @@ over r m (Some (Def.Array n u)) e = no_array m n (is_byte (shape r u.0)) e
 over r m (Some (Def.Tuple ts)) e = absurd cc
 over r m (Some (Def.Primitive p)) e = absurd cc
 over r m (Some (Def.Compact u)) e = (u, refl, same_target m (target_of r u.0) e)
-over r m (Some (Def.BitSequence store order)) e = absurd cc
+over r m (Some (Def.BitSequence store order bits)) e = no_bits m bits e
 
 -- a compact over a type that leads to nothing takes no bytes, by some number of levels
 unit_is_empty : (r : List TypeInfo) (k t : ℕ) (u : TypeId) → shape r t ≡ Some (Def.Compact u) →

@@ -112,6 +112,7 @@ IsTakenBefore (basic scale.Truncated) left at taken = left ≡ []
 IsTakenBefore (basic scale.BadBool) left at taken = taken ≡ at + 1
 IsTakenBefore (basic scale.BadChar) left at taken = taken ≡ at + 4
 IsTakenBefore (basic scale.BadUtf8) left at taken = at ≤ taken
+IsTakenBefore (basic scale.UnusedBits) left at taken = taken ≡ at + 1
 IsTakenBefore (basic scale.CompactNotShortest) left at taken = taken ≡ at + compact_end left
 IsTakenBefore (basic scale.CompactTooLarge) left at taken = (taken ≡ at + 1)
     ⊎ (taken ≡ at + compact_end left)

@@ -1,9 +1,10 @@
 -- How many bytes decide a refusal: those up to and including the byte that reveals it.
-use Rattle.std.specs.Prelude.{ℕ, zero, suc, ◌+◌, List, [], ◌∷◌, Option, Some, None, Ok, Err}
+use Rattle.std.specs.Prelude.{ℕ, zero, suc, ◌+◌, List, [], ◌∷◌, take, Option, Some, None, Ok, Err}
 use Rattle.std.specs.Prelude.{if◌then◌else◌}
 use Rattle.scale_core.specs.Read.{Read, place, compact_at, is_too_long, mode_len}
 use Rattle.scale_core.specs.declared.compact.Target.{Target}
 use Rattle.scale_core.specs.declared.compact.Target.TheVariants as target
+use Rattle.types_core.specs.Bits.{bits_bytes, first_unused}
 use Rattle.types_core.specs.declared.definition.Arm.{Arm}
 use Rattle.types_core.specs.declared.type_info.TypeInfo.{TypeInfo}
 use Rattle.graph_core.specs.Types.{field_types}
@@ -35,9 +36,20 @@ abbrev pub run_length_taken : RunKind → List ℕ → ℕ
 run_length_taken (kind.ByteArray n) b = 0
 run_length_taken _ b = compact_taken target.U32 b
 
--- a text is checked once all its bytes are there
+-- words are rejected by the first byte with a bit of 1 that they don't use
+abbrev pub words_taken : Option ℕ → ℕ → ℕ
+words_taken (Some i) k = suc i
+words_taken None k = k
+
+-- how many bytes are taken if those of a run are rejected; a text is checked once all are there
+abbrev pub body_taken : RunKind → ℕ → List ℕ → ℕ
+body_taken (kind.Bits f) n b =
+    words_taken (first_unused f n 0 (take (bits_bytes f n) b)) (bits_bytes f n)
+body_taken k n b = n
+
 abbrev pub run_taken : RunKind → List ℕ → ℕ
-run_taken k b = taken_after b (run_length_at k b) (run_length_taken k b) (λ n. n.0)
+run_taken k b =
+    taken_after b (run_length_at k b) (run_length_taken k b) (λ n. body_taken k n.0 n.1)
 
 abbrev pub all_taken : (ℕ → ValueReader Tree) → (ℕ → List ℕ → ℕ) → List ℕ → List ℕ → ℕ
 all_taken child taken [] b = 0

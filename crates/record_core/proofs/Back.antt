@@ -6,41 +6,18 @@ use Rattle.std.proofs.Common.{length-append, slice_range}
 use Rattle.std.specs.Prelude.{ℤ}
 use Rattle.std.specs.Int.{w128, cast_unsigned}
 use Rattle.std.proofs.Math.Seq.{take-append_seam, drop-append_seam}
+use Rattle.types_core.specs.declared.type_info.TypeInfo.{TypeInfo}
+use Rattle.graph_core.specs.Types.{shape}
 use Rattle.grammar_core.specs.Cells.{Cell}
 use Rattle.grammar_core.specs.Preorder as head
-use Rattle.grammar_core.specs.Preorder.{Head, all_preorder, preorder, tree_of, tree_of-preorder}
+use Rattle.grammar_core.specs.Preorder.{Head, tree_of, tree_of-preorder}
 use Rattle.grammar_core.specs.Tree as tree
-use Rattle.grammar_core.specs.Tree.{Tree, Trees, and, none}
 use Rattle.node_core.specs.Shown.{signed_from}
 use Rattle.node_core.proofs.CellsOf.{cells_preorder}
 use Rattle.node_core.proofs.Words.{signed_same}
 use Rattle.record_core.specs.Records.{RecordsAreTree, head_of, nodes_of, pool_bytes, pool_of}
 use Rattle.record_core.specs.Records.{record_of, records_from}
-use Rattle.record_core.proofs.Signed.{AllFit, FitsLeaf, FitsTree, tree_fits}
-
--- a signed integer of a node fits 128 bits
-abbrev FitsHead : Head → Type 0
-FitsHead (head.leaf l) = FitsLeaf l
-FitsHead (head.branch k n) = Unit {0}
-
-abbrev HeadsFit : List Head → Type 0
-HeadsFit [] = Unit {0}
-HeadsFit (h ∷ hs) = FitsHead h × HeadsFit hs
-
--- nodes that fit stay so when they are joined
-heads_append : (as' bs : List Head) → HeadsFit as' → HeadsFit bs → HeadsFit (as' ++ bs)
-heads_append [] bs f g = g
-heads_append (a ∷ as') bs f g = (f.0, heads_append as' bs f.1 g)
-
-mutual
-  preorder_fits : (v : Tree) → FitsTree v → HeadsFit (preorder v)
-  preorder_fits (tree.leaf l) h = (h, tt)
-  preorder_fits (tree.branch k vs) h = (tt, all_preorder_fits vs h)
-
-  all_preorder_fits : (vs : Trees) → AllFit vs → HeadsFit (all_preorder vs)
-  all_preorder_fits none h = tt
-  all_preorder_fits (and v vs) h = heads_append (preorder v) (all_preorder vs)
-      (preorder_fits v h.0) (all_preorder_fits vs h.1)
+use Rattle.record_core.proofs.Fitting.{CellsFit, FitsHead, cells_fit}
 
 -- ---- one node
 
@@ -59,10 +36,11 @@ halves_are : (n : ℕ) → n % 2 ^ 64 + 2 ^ 64 * (n / 2 ^ 64) ≡ n
 halves_are n = omega arith
 
 -- a node is read back from its record, where its bytes stand in the pool
-head_back : (front rest : List ℕ) (at : ℕ) (c : Cell) → at ≡ length front → FitsHead c.head →
-    head_of (front ++ (pool_bytes c.head ++ rest)) (record_of at c) ≡ c.head
-head_back front rest at c e fits = by c.head fits where
-  by : (h : Head) → FitsHead h → head_of (front ++ (pool_bytes h ++ rest))
+head_back : (r : List TypeInfo) (front rest : List ℕ) (at : ℕ) (c : Cell) → at ≡ length front →
+    FitsHead (shape r c.ty) c.head →
+    head_of r (front ++ (pool_bytes c.head ++ rest)) (record_of at c) ≡ c.head
+head_back r front rest at c e fits = by c.head fits where
+  by : (h : Head) → FitsHead (shape r c.ty) h → head_of r (front ++ (pool_bytes h ++ rest))
       (record_of at (record { ty = c.ty; head = h; size = c.size })) ≡ h
   by (head.leaf tree.unit) f = refl
   by (head.leaf (tree.bool true)) f = refl
@@ -81,6 +59,9 @@ head_back front rest at c e fits = by c.head fits where
       ap (λ (x : List ℕ). head.leaf (tree.bytes x)) (between_is front s rest at e)
   by (head.leaf (tree.wide s)) f =
       ap (λ (x : List ℕ). head.leaf (tree.wide x)) (between_is front s rest at e)
+  by (head.leaf (tree.bits n s)) f = ap (λ (x : List ℕ). head.leaf (tree.bits n x))
+      (ap (λ (k : ℕ). slice_range (front ++ (s ++ rest)) at (at + k)) (sym f)
+      ∙ between_is front s rest at e)
   by (head.branch tree.fields n) f = refl
   by (head.branch (tree.arm q) n) f = refl
   by (head.branch tree.list n) f = refl
@@ -91,26 +72,25 @@ abbrev bare : List Cell → List Head
 bare cs = map (λ (c : Cell). c.head) cs
 
 -- all nodes are read back from their records, after what stands in front of their bytes
-heads_back : (front : List ℕ) (at : ℕ) (cs : List Cell) → at ≡ length front →
-    HeadsFit (bare cs) →
-    map (head_of (front ++ pool_of cs)) (records_from at cs) ≡ bare cs
-heads_back front at [] e f = refl
-heads_back front at (c ∷ cs) e f =
+heads_back : (r : List TypeInfo) (front : List ℕ) (at : ℕ) (cs : List Cell) →
+    at ≡ length front → CellsFit r cs →
+    map (head_of r (front ++ pool_of cs)) (records_from at cs) ≡ bare cs
+heads_back r front at [] e f = refl
+heads_back r front at (c ∷ cs) e f =
     let own = pool_bytes c.head in
     let again : front ++ (own ++ pool_of cs) ≡ (front ++ own) ++ pool_of cs =
     sym (append_assoc front own (pool_of cs)) in
     let long : at + length own ≡ length (front ++ own) =
     omega (arith, e, length-append front own) in
-    ap (λ (h : Head). h ∷ map (head_of (front ++ (own ++ pool_of cs)))
-    (records_from (at + length own) cs)) (head_back front (pool_of cs) at c e f.0)
+    ap (λ (h : Head). h ∷ map (head_of r (front ++ (own ++ pool_of cs)))
+    (records_from (at + length own) cs)) (head_back r front (pool_of cs) at c e f.0)
     ∙ ap (λ (hs : List Head). c.head ∷ hs)
-    (ap (λ (pool : List ℕ). map (head_of pool) (records_from (at + length own) cs)) again
-    ∙ heads_back (front ++ own) (at + length own) cs long f.1)
+    (ap (λ (pool : List ℕ). map (head_of r pool) (records_from (at + length own) cs)) again
+    ∙ heads_back r (front ++ own) (at + length own) cs long f.1)
 
 -- the records of a value and its pool, read back, are its tree
 pub records_are_tree : RecordsAreTree
 records_are_tree v h =
-    let same : bare (nodes_of v) ≡ preorder v.tree = cells_preorder v.types v.ty v.tree in
-    let fits = preorder_fits v.tree (tree_fits v.types v.ty v.tree h.0 h.1 h.2) in
-    ap tree_of (heads_back [] 0 (nodes_of v) refl (rw same fits) ∙ same)
+    ap tree_of (heads_back v.types [] 0 (nodes_of v) refl
+    (cells_fit v.types v.ty v.tree h.0 h.1 h.2) ∙ cells_preorder v.types v.ty v.tree)
     ∙ tree_of-preorder v.tree

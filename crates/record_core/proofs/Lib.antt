@@ -1,5 +1,5 @@
 pub mod Adds
 pub mod Back
+pub mod Fitting
 pub mod Passed
 pub mod Puts
-pub mod Signed

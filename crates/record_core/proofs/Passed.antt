@@ -46,43 +46,51 @@ passed None (Err x) b e = absurd cc
 passed (Some f) x b e = absurd cc
 
 -- after records that passed, one more passes if it has no fault
-next_by : (pool : List ℕ) (rs : List Record) (b0 b : Built) (i : ℕ) (d : Record) →
-    replay pool (take i rs) b0 ≡ Ok b → i < length rs →
-    record_fault pool (get_or rs i d) b ≡ None →
-    replay pool (take (suc i) rs) b0 ≡ Ok (with_record pool (get_or rs i d) b)
-next_by pool [] b0 b i d e h sound = absurd (omega arith)
-next_by pool (r ∷ rs) b0 b zero d e h sound =
+next_by : (types : List TypeInfo) (pool : List ℕ) (rs : List Record) (b0 b : Built) (i : ℕ)
+    (d : Record) →
+    replay types pool (take i rs) b0 ≡ Ok b → i < length rs →
+    record_fault types pool (get_or rs i d) b ≡ None →
+    replay types pool (take (suc i) rs) b0 ≡ Ok (with_record types pool (get_or rs i d) b)
+next_by types pool [] b0 b i d e h sound = absurd (omega arith)
+next_by types pool (r ∷ rs) b0 b zero d e h sound =
     let same : b0 ≡ b = cc in
-    let none : record_fault pool r b0 ≡ None = ap (record_fault pool r) same ∙ sound in
-    rw none (ap (λ (c : Built). Ok (with_record pool r c)) same)
-next_by pool (r ∷ rs) b0 b (suc i) d e h sound =
-    let first = passed (record_fault pool r b0) (replay pool (take i rs) (with_record pool r b0)) b
-    e
+    let none : record_fault types pool r b0 ≡ None = ap (record_fault types pool r) same ∙ sound in
+    rw none (ap (λ (c : Built). Ok (with_record types pool r c)) same)
+next_by types pool (r ∷ rs) b0 b (suc i) d e h sound =
+    let first = passed (record_fault types pool r b0)
+    (replay types pool (take i rs) (with_record types pool r b0)) b e
     in
-    rw (first.0, next_by pool rs (with_record pool r b0) b i d first.1 (omega arith) sound) refl
+    let later = next_by types pool rs (with_record types pool r b0) b i d first.1 (omega arith)
+    sound
+    in
+    rw (first.0, later) refl
 
 -- the same, with the next position written as a sum
-pub replay_next : (pool : List ℕ) (rs : List Record) (b0 b : Built) (i : ℕ) (d : Record) →
-    replay pool (take i rs) b0 ≡ Ok b → i < length rs →
-    record_fault pool (get_or rs i d) b ≡ None →
-    replay pool (take (i + 1) rs) b0 ≡ Ok (with_record pool (get_or rs i d) b)
-replay_next pool rs b0 b i d e h sound =
-    ap (λ (n : ℕ). replay pool (take n rs) b0) (add-one i) ∙ next_by pool rs b0 b i d e h sound
+pub replay_next : (types : List TypeInfo) (pool : List ℕ) (rs : List Record) (b0 b : Built) (i : ℕ)
+    (d : Record) →
+    replay types pool (take i rs) b0 ≡ Ok b → i < length rs →
+    record_fault types pool (get_or rs i d) b ≡ None →
+    replay types pool (take (i + 1) rs) b0 ≡ Ok (with_record types pool (get_or rs i d) b)
+replay_next types pool rs b0 b i d e h sound =
+    ap (λ (n : ℕ). replay types pool (take n rs) b0) (add-one i)
+    ∙ next_by types pool rs b0 b i d e h sound
 
 -- after records that passed, one with a fault is where all stop
-pub replay_stop : (pool : List ℕ) (rs : List Record) (b0 b : Built) (i : ℕ) (d : Record)
-    (f : BuildFault) → replay pool (take i rs) b0 ≡ Ok b → i < length rs →
-    record_fault pool (get_or rs i d) b ≡ Some f → replay pool rs b0 ≡ Err (i, f)
-replay_stop pool [] b0 b i d f e h stop = absurd (omega arith)
-replay_stop pool (r ∷ rs) b0 b zero d f e h stop =
+pub replay_stop : (types : List TypeInfo) (pool : List ℕ) (rs : List Record) (b0 b : Built) (i : ℕ)
+    (d : Record) (f : BuildFault) → replay types pool (take i rs) b0 ≡ Ok b → i < length rs →
+    record_fault types pool (get_or rs i d) b ≡ Some f → replay types pool rs b0 ≡ Err (i, f)
+replay_stop types pool [] b0 b i d f e h stop = absurd (omega arith)
+replay_stop types pool (r ∷ rs) b0 b zero d f e h stop =
     let same : b0 ≡ b = cc in
-    let some : record_fault pool r b0 ≡ Some f = ap (record_fault pool r) same ∙ stop in
+    let some : record_fault types pool r b0 ≡ Some f = ap (record_fault types pool r) same ∙ stop in
     rw some refl
-replay_stop pool (r ∷ rs) b0 b (suc i) d f e h stop =
-    let first = passed (record_fault pool r b0) (replay pool (take i rs) (with_record pool r b0)) b
-    e
+replay_stop types pool (r ∷ rs) b0 b (suc i) d f e h stop =
+    let first = passed (record_fault types pool r b0)
+    (replay types pool (take i rs) (with_record types pool r b0)) b e
     in
-    let later = replay_stop pool rs (with_record pool r b0) b i d f first.1 (omega arith) stop in
+    let later = replay_stop types pool rs (with_record types pool r b0) b i d f first.1
+    (omega arith) stop
+    in
     rw (first.0, later) refl
 
 -- ---- what a call of the builder did
@@ -237,31 +245,34 @@ pub record ShowsAll (old new : Built) (hs : List Head) : Type 0 where
   pub ty : new.ty ≡ old.ty
 
 -- where all records passed, the nodes are theirs
-all_shown : (pool : List ℕ) (rs : List Record) (b0 b : Built) → replay pool rs b0 ≡ Ok b →
-    ShowsAll b0 b (map (head_of pool) rs)
-all_shown pool [] b0 b e =
+all_shown : (types : List TypeInfo) (pool : List ℕ) (rs : List Record) (b0 b : Built) →
+    replay types pool rs b0 ≡ Ok b →
+    ShowsAll b0 b (map (head_of types pool) rs)
+all_shown types pool [] b0 b e =
     let same : b0 ≡ b = cc in
     subst (λ (c : Built). ShowsAll b0 c []) same
     (record { shows = sym (append-nil (heads b0)); types = refl; ty = refl })
-all_shown pool (r ∷ rs) b0 b e =
-    let first = passed (record_fault pool r b0) (replay pool rs (with_record pool r b0)) b e in
-    let one = node_added (head_of pool r) b0 (second (own_fault pool r) _ first.0) in
-    let more = all_shown pool rs (with_record pool r b0) b first.1 in
+all_shown types pool (r ∷ rs) b0 b e =
+    let first = passed (record_fault types pool r b0)
+    (replay types pool rs (with_record types pool r b0)) b e
+    in
+    let one = node_added (head_of types pool r) b0 (second (own_fault types pool r) _ first.0) in
+    let more = all_shown types pool rs (with_record types pool r b0) b first.1 in
     record {
-      shows = more.shows ∙ ap (λ (hs : List Head). hs ++ map (head_of pool) rs) one.shows
-          ∙ append_assoc (heads b0) (head_of pool r ∷ [])
-          (map (head_of pool) rs);
+      shows = more.shows ∙ ap (λ (hs : List Head). hs ++ map (head_of types pool) rs) one.shows
+          ∙ append_assoc (heads b0) (head_of types pool r ∷ [])
+          (map (head_of types pool) rs);
       types = more.types ∙ one.types;
       ty = more.ty ∙ one.ty;
     }
 
 -- the value that is finished after all records is the tree that they are
-pub tree_is : (pool : List ℕ) (rs : List Record) (types : List TypeInfo) (root depth : ℕ)
-    (b : Built) (v : Seen) → replay pool rs (start_with types root depth) ≡ Ok b →
+pub tree_is : (types : List TypeInfo) (pool : List ℕ) (rs : List Record) (root depth : ℕ)
+    (b : Built) (v : Seen) → replay types pool rs (start_with types root depth) ≡ Ok b →
     Finishes (is_complete b) (finished b) b (Ok v) →
-    v ≡ record { types = types; ty = root; tree = tree_read pool rs }
-tree_is pool rs types root depth b v e h =
-    let all = all_shown pool rs (start_with types root depth) b e in
+    v ≡ record { types = types; ty = root; tree = tree_read types pool rs }
+tree_is types pool rs root depth b v e h =
+    let all = all_shown types pool rs (start_with types root depth) b e in
     given (is_complete b) h ∙ rw (all.shows, all.types, all.ty) refl
   where
     given : (yes : Bool) → Finishes yes (finished b) b (Ok v) → v ≡ finished b

@@ -21,6 +21,7 @@ pub kept_is : (bytes : List ℕ) (n : ℕ) (c : Content) →
 kept_is bytes n (is.Text len start) = refl
 kept_is bytes n (is.Bytes len start) = refl
 kept_is bytes n (is.Wide start) = refl
+kept_is bytes n (is.Bits unused len start) = refl
 kept_is bytes n _ = refl
 
 -- the records of nodes and one more are those of the nodes and then its own
@@ -173,6 +174,7 @@ kept_le : (bytes : List ℕ) (c : Content) → length (kept_in bytes c) ≤ kept
 kept_le bytes (is.Text len start) = range_le bytes start len
 kept_le bytes (is.Bytes len start) = range_le bytes start len
 kept_le bytes (is.Wide start) = range_le bytes start 32
+kept_le bytes (is.Bits unused len start) = range_le bytes start len
 kept_le bytes _ = omega arith
 
 -- nodes have no more bytes than they keep

@@ -1,9 +1,14 @@
 -- A value as records: a node is a few numbers, and its bytes lie in a pool beside them.
 use Rattle.std.specs.Prelude.{◌≡◌, ℕ, ◌+◌, ◌*◌, ◌/◌, ◌%◌, ◌^◌, ◌==◌, List, [], ◌∷◌, length}
 use Rattle.std.specs.Prelude.{flat_map}
-use Rattle.std.specs.Prelude.{map, nat_lt, if◌then◌else◌, slice_range}
+use Rattle.std.specs.Prelude.{map, nat_lt, if◌then◌else◌, slice_range, Option, Some}
 use Rattle.std.specs.Int.{w128, cast_unsigned}
 use Rattle.scale_core.specs.Number.{bool_byte}
+use Rattle.types_core.specs.Bits.{bits_bytes}
+use Rattle.types_core.specs.declared.definition.TypeDef.{TypeDef}
+use Rattle.types_core.specs.declared.definition.TypeDef.TheVariants as Def
+use Rattle.types_core.specs.declared.type_info.TypeInfo.{TypeInfo}
+use Rattle.graph_core.specs.Types.{shape}
 use Rattle.grammar_core.specs.Cells.{Cell, cells}
 use Rattle.grammar_core.specs.Preorder as head
 use Rattle.grammar_core.specs.Preorder.{Head, child_count, tree_of}
@@ -27,6 +32,7 @@ kind_code (head.leaf (tree.wide s)) = 9
 kind_code (head.branch tree.fields n) = 10
 kind_code (head.branch (tree.arm q) n) = 11
 kind_code (head.branch tree.list n) = 12
+kind_code (head.leaf (tree.bits n s)) = 13
 
 -- the position of its arm
 abbrev pub arm_code : Head → ℕ
@@ -38,10 +44,12 @@ abbrev pub pool_bytes : Head → List ℕ
 pool_bytes (head.leaf (tree.text s)) = s
 pool_bytes (head.leaf (tree.bytes s)) = s
 pool_bytes (head.leaf (tree.wide s)) = s
+pool_bytes (head.leaf (tree.bits n s)) = s
 pool_bytes _ = []
 
 -- the two words of a node whose bytes begin at place `at` of the pool, and whose subtree has `size`
--- nodes: the halves of a number; a place in the pool and a length; or the number of nodes
+-- nodes: the halves of a number; a place in the pool and a length, in bits for a bit sequence and
+-- else in bytes; or the number of nodes
 abbrev pub low_word : ℕ → ℕ → Head → ℕ
 low_word at size (head.leaf tree.unit) = 0
 low_word at size (head.leaf (tree.bool x)) = bool_byte x
@@ -53,6 +61,7 @@ low_word at size (head.leaf (tree.count n)) = n
 low_word at size (head.leaf (tree.text s)) = at
 low_word at size (head.leaf (tree.bytes s)) = at
 low_word at size (head.leaf (tree.wide s)) = at
+low_word at size (head.leaf (tree.bits n s)) = at
 low_word at size (head.branch k n) = size
 
 abbrev pub high_word : Head → ℕ
@@ -62,6 +71,7 @@ high_word (head.leaf (tree.compact n)) = n / 2 ^ 64
 high_word (head.leaf (tree.text s)) = length s
 high_word (head.leaf (tree.bytes s)) = length s
 high_word (head.leaf (tree.wide s)) = length s
+high_word (head.leaf (tree.bits n s)) = n
 high_word _ = 0
 
 -- the record of a node whose bytes begin at a place of the pool
@@ -97,8 +107,17 @@ number_of r = r.low + 2 ^ 64 * r.high
 abbrev pub range_of : List ℕ → Record → List ℕ
 range_of pool r = slice_range pool r.low (r.low + r.high)
 
--- the node of a record: one with its number in the record, one with its bytes in the pool, or one
--- with children
+-- how many bytes the words of n bits have in a type of this definition; 0 if its bits aren't read
+abbrev pub words_len : Option TypeDef → ℕ → ℕ
+words_len (Some (Def.BitSequence store order (Some form))) n = bits_bytes form n
+words_len _ n = 0
+
+abbrev pub words_of : List TypeInfo → List ℕ → Record → List ℕ
+words_of types pool r =
+    slice_range pool r.low (r.low + words_len (shape types r.ty) r.high)
+
+-- the node of a record: one with its number in the record, one with its bytes in the pool, one with
+-- children, or a bit sequence
 abbrev pub scalar_head : Record → Head
 scalar_head r =
     if r.kind == 0 then head.leaf tree.unit
@@ -121,17 +140,21 @@ branch_head r =
     else if r.kind == 11 then head.branch (tree.arm r.arm) r.children
     else head.branch tree.list r.children
 
-abbrev pub head_of : List ℕ → Record → Head
-head_of pool r =
+abbrev pub bits_head : List TypeInfo → List ℕ → Record → Head
+bits_head types pool r = head.leaf (tree.bits r.high (words_of types pool r))
+
+abbrev pub head_of : List TypeInfo → List ℕ → Record → Head
+head_of types pool r =
     if nat_lt r.kind 7 then scalar_head r
     else if nat_lt r.kind 10 then pooled_head r.kind (range_of pool r)
-    else branch_head r
+    else if nat_lt r.kind 13 then branch_head r
+    else bits_head types pool r
 
 -- the tree of the nodes of these records
-abbrev pub tree_read : List ℕ → List Record → Tree
-tree_read pool rs = tree_of (map (head_of pool) rs)
+abbrev pub tree_read : List TypeInfo → List ℕ → List Record → Tree
+tree_read types pool rs = tree_of (map (head_of types pool) rs)
 
 -- reading back the records and the pool of a value gives its tree
 abbrev pub RecordsAreTree : Type 0
 RecordsAreTree = (v : Seen) → IsValue v →
-    tree_read (pool_of (nodes_of v)) (records_from 0 (nodes_of v)) ≡ v.tree
+    tree_read v.types (pool_of (nodes_of v)) (records_from 0 (nodes_of v)) ≡ v.tree

@@ -1,10 +1,11 @@
 -- Records as calls of a builder: what each adds, and why one is rejected.
 use Rattle.std.specs.Prelude.{◌≡◌, ◌⊎◌, ℕ, suc, ◌+◌, ◌^◌, ◌==◌, nat_lt, not, Bool, true}
 use Rattle.std.specs.Prelude.{false, List, [], ◌∷◌, length, Option, Some, None, Result, Ok, Err}
-use Rattle.std.specs.Prelude.{if◌then◌else◌}
+use Rattle.std.specs.Prelude.{if◌then◌else◌, ◌&&◌}
 use Rattle.std.specs.Str.{is_utf8}
 use Rattle.std.specs.Str.Lossy.{utf8_valid_len}
 use Rattle.scale_core.specs.Number.{is_scalar}
+use Rattle.graph_core.specs.Types.{shape}
 use Rattle.grammar_core.specs.Preorder as head
 use Rattle.grammar_core.specs.Preorder.{Head}
 use Rattle.grammar_core.specs.Tree as tree
@@ -12,13 +13,14 @@ use Rattle.node_core.specs.Shown.{Seen}
 use Rattle.value_core.specs.Built.{Built, finished, with_arm_at, with_fields, with_leaf, with_list}
 use Rattle.types_core.specs.declared.type_info.TypeInfo.{TypeInfo}
 use Rattle.value_core.specs.Walked.{start_of}
-use Rattle.value_core.specs.Refusals.{in_range, is_complete, judged, judged_arm_at, suits_bool}
+use Rattle.value_core.specs.Refusals.{in_range, is_complete, judged, judged_arm_at, suits_bits}
+use Rattle.value_core.specs.Refusals.{suits_bool}
 use Rattle.value_core.specs.Refusals.{suits_bytes, suits_char, suits_compact, suits_count}
 use Rattle.value_core.specs.Refusals.{suits_empty, suits_fields_of, suits_list, suits_signed}
 use Rattle.value_core.specs.Refusals.{suits_text, suits_unsigned, suits_wide, wrong}
 use Rattle.value_core.specs.declared.build_fault.BuildFault.{BuildFault}
 use Rattle.value_core.specs.declared.build_fault.BuildFault.TheVariants as fault
-use Rattle.record_core.specs.Records.{head_of, range_of}
+use Rattle.record_core.specs.Records.{head_of, range_of, words_len}
 use Rattle.record_core.specs.declared.record.Record.{Record}
 use Rattle.record_core.specs.declared.replaying.RecordFault.{RecordFault}
 use Rattle.record_core.specs.declared.replaying.RecordFault.TheVariants as records
@@ -42,11 +44,17 @@ pooled_fault pool r =
     else if r.kind == 9 then in_range (r.high == 32)
     else None
 
-abbrev pub own_fault : List ℕ → Record → Option BuildFault
-own_fault pool r =
+-- the words of at most 2^32 - 1 bits lie in the pool
+abbrev pub bits_fault : List TypeInfo → List ℕ → Record → Option BuildFault
+bits_fault types pool r = in_range (nat_lt r.high (2 ^ 32)
+    && not (nat_lt (length pool) (r.low + words_len (shape types r.ty) r.high)))
+
+abbrev pub own_fault : List TypeInfo → List ℕ → Record → Option BuildFault
+own_fault types pool r =
     if nat_lt r.kind 7 then scalar_fault r
     else if nat_lt r.kind 10 then pooled_fault pool r
     else if nat_lt r.kind 13 then None
+    else if r.kind == 13 then bits_fault types pool r
     else wrong
 
 -- the builder's fault for the node, if any
@@ -61,6 +69,7 @@ judged_node (head.leaf (tree.count n)) b = judged suits_count b
 judged_node (head.leaf (tree.text s)) b = judged (suits_text s) b
 judged_node (head.leaf (tree.bytes s)) b = judged (suits_bytes s) b
 judged_node (head.leaf (tree.wide s)) b = judged suits_wide b
+judged_node (head.leaf (tree.bits n s)) b = judged (suits_bits n s) b
 judged_node (head.branch tree.fields n) b = judged (suits_fields_of b n) b
 judged_node (head.branch (tree.arm q) n) b = judged_arm_at b q n
 judged_node (head.branch tree.list n) b = judged (suits_list n) b
@@ -70,8 +79,9 @@ abbrev pub first_fault : Option BuildFault → Option BuildFault → Option Buil
 first_fault (Some f) later = Some f
 first_fault None later = later
 
-abbrev pub record_fault : List ℕ → Record → Built → Option BuildFault
-record_fault pool r b = first_fault (own_fault pool r) (judged_node (head_of pool r) b)
+abbrev pub record_fault : List TypeInfo → List ℕ → Record → Built → Option BuildFault
+record_fault types pool r b =
+    first_fault (own_fault types pool r) (judged_node (head_of types pool r) b)
 
 -- the value with the node
 abbrev pub with_node : Head → Built → Built
@@ -80,8 +90,8 @@ with_node (head.branch tree.fields n) b = with_fields b
 with_node (head.branch (tree.arm q) n) b = with_arm_at b q
 with_node (head.branch tree.list n) b = with_list b n
 
-abbrev pub with_record : List ℕ → Record → Built → Built
-with_record pool r b = with_node (head_of pool r) b
+abbrev pub with_record : List TypeInfo → List ℕ → Record → Built → Built
+with_record types pool r b = with_node (head_of types pool r) b
 
 -- ---- all records, one after the other
 
@@ -105,10 +115,10 @@ unless_fault None later = one_later later
 unless_fault (Some f) later = Err (0, f)
 
 -- the value with the nodes of all records, or the position and fault of the first that is rejected
-abbrev pub replay : List ℕ → List Record → Built → Result Built (ℕ × BuildFault)
-replay pool [] b = Ok b
-replay pool (r ∷ rs) b =
-    unless_fault (record_fault pool r b) (replay pool rs (with_record pool r b))
+abbrev pub replay : List TypeInfo → List ℕ → List Record → Built → Result Built (ℕ × BuildFault)
+replay types pool [] b = Ok b
+replay types pool (r ∷ rs) b = unless_fault (record_fault types pool r b)
+    (replay types pool rs (with_record types pool r b))
 
 -- the value if no node is missing, and otherwise a fault at the end of the records
 abbrev pub ended_at : ℕ → Bool → Built → Result Seen (ℕ × BuildFault)

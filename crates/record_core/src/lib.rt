@@ -7,8 +7,8 @@ mod replaying;
 mod writing;
 
 pub use record::{
-    ARM, BOOL, BYTES, CHAR, COMPACT, COUNT, EMPTY, FIELDS, LIST, Record, SIGNED, TEXT, UNSIGNED,
-    WIDE,
+    ARM, BITS, BOOL, BYTES, CHAR, COMPACT, COUNT, EMPTY, FIELDS, LIST, Record, SIGNED, TEXT,
+    UNSIGNED, WIDE,
 };
 pub use replaying::{RecordFault, value_of_records};
 pub use writing::{Room, write_records};

@@ -4,7 +4,7 @@ ghost use Rattle.std.specs.Prelude.{◌≡◌, ◌%◌, ◌/◌, ◌^◌};
 ghost use Rattle.node_core.specs.Shown.{IsInPool, cell_shown};
 ghost use Rattle.record_core.specs.Records.{number_of, record_of};
 
-use node_core::{Content, Node, long_at};
+use node_core::{Content, Node, bit_count, long_at};
 use types_core::TypeId;
 
 /// The kind of the one value of a type that takes no bytes.
@@ -35,6 +35,9 @@ pub const FIELDS: u32 = 10;
 pub const ARM: u32 = 11;
 /// The kind of an array or a sequence of another type than u8.
 pub const LIST: u32 = 12;
+/// The kind of a bit sequence: `high` bits, whose words begin at position `low` of the pool. Its
+/// type says how many bytes they have, and where each bit stands in them.
+pub const BITS: u32 = 13;
 
 /// A node of a value as numbers, without pointers. Numbers that its kind doesn't use are 0.
 #[repr(C)]
@@ -51,7 +54,7 @@ pub struct Record {
     /// The low half of a number, or where its bytes begin in the pool. If the node is a composite,
     /// a tuple, a variant or a list, how many nodes its subtree has, with itself.
     pub low: u64,
-    /// The high half of a number, or how many bytes it has in the pool.
+    /// The high half of a number, how many bytes it has in the pool, or how many bits it has.
     pub high: u64,
 }
 
@@ -142,6 +145,9 @@ impl Record {
             Content::Text { len, .. } => leaf(TEXT, ty, at, u64::from(len)),
             Content::Bytes { len, .. } => leaf(BYTES, ty, at, u64::from(len)),
             Content::Wide { .. } => leaf(WIDE, ty, at, 32),
+            Content::Bits { unused, len, .. } => {
+                leaf(BITS, ty, at, u64::from(bit_count(unused, len)))
+            }
             Content::Fields { size } => branch(FIELDS, node, 0, size),
             Content::Arm { position, size } => branch(ARM, node, position, size),
             Content::List { size } => branch(LIST, node, 0, size),

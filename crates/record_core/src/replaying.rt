@@ -1,6 +1,7 @@
 //! Reads a value back from records.
 
-ghost use Rattle.std.specs.Prelude.{◌≡◌, ◌<◌, ◌≤◌, ◌+◌, ◌==◌, true, SomeIff, MatchResult, IfOk};
+ghost use Rattle.std.specs.Prelude.{◌≡◌, ◌<◌, ◌≤◌, ◌+◌, ◌^◌, ◌==◌, true, SomeIff, MatchResult};
+ghost use Rattle.std.specs.Prelude.{IfOk};
 ghost use Rattle.std.specs.Prelude.{None, length, []};
 ghost use Rattle.scale_core.specs.Number.{is_scalar};
 ghost use Rattle.grammar_core.specs.Preorder as head;
@@ -10,18 +11,20 @@ ghost use Rattle.value_core.specs.Refusals.{Adds, build_opening_fault, in_range,
 ghost use Rattle.value_core.specs.Refusals.{suits_wide};
 ghost use Rattle.value_core.specs.Walked.{start_of};
 ghost use Rattle.value_core.specs.declared.build_fault.BuildFault.TheVariants.{OutOfRange};
-ghost use Rattle.record_core.specs.Records.{range_of, scalar_head, tree_read};
-ghost use Rattle.record_core.specs.Replayed.{ReadsRecords, ended, first_fault, judged_node};
-ghost use Rattle.record_core.specs.Replayed.{record_fault, replay, scalar_fault, start_with};
-ghost use Rattle.record_core.specs.Replayed.{with_node, with_record};
+ghost use Rattle.graph_core.specs.Types.{shape};
+ghost use Rattle.record_core.specs.Records.{bits_head, pooled_head, range_of, scalar_head};
+ghost use Rattle.record_core.specs.Records.{tree_read, words_len};
+ghost use Rattle.record_core.specs.Replayed.{ReadsRecords, bits_fault, ended, first_fault};
+ghost use Rattle.record_core.specs.Replayed.{judged_node, pooled_fault, record_fault, replay};
+ghost use Rattle.record_core.specs.Replayed.{scalar_fault, start_with, with_node, with_record};
 
 use crate::record::{
-    ARM, BOOL, BYTES, CHAR, COMPACT, COUNT, EMPTY, FIELDS, LIST, Record, SIGNED, TEXT, UNSIGNED,
-    WIDE,
+    ARM, BITS, BOOL, BYTES, CHAR, COMPACT, COUNT, EMPTY, FIELDS, LIST, Record, SIGNED, TEXT,
+    UNSIGNED, WIDE,
 };
 use simdutf8::compat::from_utf8;
 use std::alloc::Allocator;
-use types_core::TypeId;
+use types_core::{TypeDef, TypeId};
 use value_core::{BuildFault, Builder, Value};
 use widths_core::Checked;
 
@@ -92,8 +95,10 @@ fn add_pooled<A: Allocator>(
 ) -> Result<(), BuildFault>
     requires least { TEXT ≤ node.now.kind }
     requires most { node.now.kind ≤ WIDE }
-    ensures { Adds (record_fault pool.now node.now builder.old)
-        (with_record pool.now node.now builder.old) builder.old builder.new result }
+    ensures { Adds (first_fault (pooled_fault pool.now node.now)
+        (judged_node (pooled_head node.now.kind (range_of pool.now node.now)) builder.old))
+        (with_node (pooled_head node.now.kind (range_of pool.now node.now)) builder.old)
+        builder.old builder.new result }
 {
     let bytes = range_of(node, pool)?;
     match node.kind {
@@ -140,6 +145,49 @@ fn add_scalar<A: Allocator>(builder: &mut Builder<'_, A>, node: &Record) -> Resu
     }
 }
 
+/// Returns how many bytes the words of so many bits have in a type, or 0 if its bits aren't read.
+fn words_len(checked: &Checked, ty: u32, count: u32) -> usize
+    ensures exact { result ≡ words_len (shape checked.now.types ty) count }
+    ensures bound { result < 2 ^ 32 }
+{
+    match checked.registry().types().get(ty as usize) {
+        Some(info) => match &info.shape {
+            TypeDef::BitSequence {
+                form: Some(form),
+                ..
+            } => form.bytes(count),
+            _ => 0,
+        },
+        None => 0,
+    }
+}
+
+/// Adds a bit sequence.
+///
+/// # Errors
+///
+/// The fault of the record, and then that of the builder.
+fn add_bits<A: Allocator>(
+    builder: &mut Builder<'_, A>,
+    checked: &Checked,
+    node: &Record,
+    pool: &[u8],
+) -> Result<(), BuildFault>
+    ensures { Adds (first_fault (bits_fault checked.now.types pool.now node.now)
+        (judged_node (bits_head checked.now.types pool.now node.now) builder.old))
+        (with_node (bits_head checked.now.types pool.now node.now) builder.old)
+        builder.old builder.new result }
+{
+    let Ok(count) = u32::try_from(node.high) else {
+        return Err(BuildFault::OutOfRange);
+    };
+    let len = words_len(checked, node.ty, count);
+    if node.low > pool.len() as u64 || len > pool.len() - node.low as usize {
+        return Err(BuildFault::OutOfRange);
+    }
+    builder.bits(count, &pool[node.low as usize..node.low as usize + len])
+}
+
 /// Adds the node of a record.
 ///
 /// # Errors
@@ -147,15 +195,18 @@ fn add_scalar<A: Allocator>(builder: &mut Builder<'_, A>, node: &Record) -> Resu
 /// The fault of the record, and then that of the builder, which is unchanged.
 fn add<A: Allocator>(
     builder: &mut Builder<'_, A>,
+    checked: &Checked,
     node: &Record,
     pool: &[u8],
 ) -> Result<(), BuildFault>
-    ensures { Adds (record_fault pool.now node.now builder.old)
-        (with_record pool.now node.now builder.old) builder.old builder.new result }
+    ensures { Adds (record_fault checked.now.types pool.now node.now builder.old)
+        (with_record checked.now.types pool.now node.now builder.old)
+        builder.old builder.new result }
 {
     match node.kind {
         ..=COUNT => add_scalar(builder, node),
         TEXT..=WIDE => add_pooled(builder, node, pool),
+        BITS => add_bits(builder, checked, node, pool),
         FIELDS => builder.fields_of(node.children),
         ARM => builder.arm_at(node.arm, node.children),
         LIST => builder.list(node.children),
@@ -166,8 +217,8 @@ fn add<A: Allocator>(
 /// Builds the value, of the type `root` and within the depth limit, whose nodes the records are,
 /// with their bytes in the pool.
 ///
-/// Of a record, `ty` isn't read, and `low` isn't if the node is a composite, a tuple, a variant or
-/// a list. The ranges of two records may overlap.
+/// Of a record, `ty` is read only if the node is a bit sequence, and `low` isn't if it is a
+/// composite, a tuple, a variant or a list. The ranges of two records may overlap.
 ///
 /// # Errors
 ///
@@ -189,11 +240,12 @@ pub fn value_of_records<'r, A: Allocator + Clone>(
 ) -> Result<Value<'r, A>, RecordFault>
     ensures value { ReadsRecords (build_opening_fault checked.now.types root.0 depth)
         (ended (length records.now)
-        (replay pool.now records.now (start_with checked.now.types root.0 depth))) result }
+        (replay checked.now.types pool.now records.now
+        (start_with checked.now.types root.0 depth))) result }
     ensures tree { IfOk result (λ v. v ≡ record {
       types = checked.now.types;
       ty = root.0;
-      tree = tree_read pool.now records.now;
+      tree = tree_read checked.now.types pool.now records.now;
     }) }
 {
     let mut builder = match Builder::new(alloc, checked, root, depth) {
@@ -201,7 +253,7 @@ pub fn value_of_records<'r, A: Allocator + Clone>(
         Err(fault) => return Err(RecordFault::Open(fault)),
     };
     'records: for (at, node) in records.iter().enumerate() {
-        if let Err(fault) = add(&mut builder, node, pool) {
+        if let Err(fault) = add(&mut builder, checked, node, pool) {
             return Err(RecordFault::Record(at, fault));
         }
     }

@@ -180,7 +180,7 @@ abbrev pub judged_front : List ℕ → List ℕ × List ℕ → Read Reason (Lis
 judged_front from s = cond (is_utf8 s.0) (Ok s) (Err (BadUtf8, drop (utf8_valid_len s.0) from))
 
 -- the bytes of a text are judged alike in a longer input, where they were not cut
-judged_extends : (k : ℕ) (from more : List ℕ) →
+pub judged_extends : (k : ℕ) (from more : List ℕ) →
     Extends Truncated more (bytes_at k from >>= judged_front from)
     (bytes_at k (from ++ more) >>= judged_front (from ++ more))
 judged_extends k from more = elim (cases_lt (length from) k) [

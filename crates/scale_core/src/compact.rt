@@ -137,7 +137,7 @@ fn read_long(bytes: &[u8], first: u8, target: Target) -> Result<(u128, usize), F
     ensures reads { Answers (λ x. x) bytes.now result (integer_at target bytes.now) }
     ensures fits { IfOk result (λ x. x.0 < 256 ^ target_bytes target) }
     ensures reasons { IfErr result (λ f. (f.reason ≢ Reason.BadBool) × (f.reason ≢ Reason.BadChar)
-        × (f.reason ≢ Reason.BadUtf8)) }
+        × (f.reason ≢ Reason.BadUtf8) × (f.reason ≢ Reason.UnusedBits)) }
     ensures len { IfOk result (λ x. x.1 ≤ 17) }
 {
     let count = usize::from(first / 4) + 4;
@@ -180,7 +180,7 @@ pub fn read_compact(bytes: &[u8], target: Target) -> Result<(u128, usize), Fault
     ensures reads { Answers (λ x. x) bytes.now result (compact_at target bytes.now) }
     ensures fits { IfOk result (λ x. x.0 < 256 ^ target_bytes target) }
     ensures reasons { IfErr result (λ f. (f.reason ≢ Reason.BadBool) × (f.reason ≢ Reason.BadChar)
-        × (f.reason ≢ Reason.BadUtf8)) }
+        × (f.reason ≢ Reason.BadUtf8) × (f.reason ≢ Reason.UnusedBits)) }
     ensures len { IfOk result (λ x. x.1 ≤ 17) }
 {
     if target == Target::Unit {

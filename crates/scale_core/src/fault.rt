@@ -23,6 +23,10 @@ pub enum Reason {
     /// A compact integer is above the range of its target.
     #[error("CompactTooLarge")]
     CompactTooLarge,
+    /// A bit of a bit sequence's last word is 1 but stands for none. No call of this crate reports
+    /// it.
+    #[error("UnusedBits")]
+    UnusedBits,
 }
 
 /// An error: its reason, and its place in bytes from the start of the input. Its text is `REASON at

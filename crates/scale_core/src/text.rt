@@ -27,7 +27,7 @@ use std::alloc::AllocError;
 pub fn read_text(bytes: &[u8]) -> Result<(&str, usize), Fault>
     ensures reads { Answers (λ s. s.now) bytes.now result (text_at bytes.now) }
     ensures reasons { IfErr result (λ f. (f.reason ≢ Reason.BadBool)
-        × (f.reason ≢ Reason.BadChar)) }
+        × (f.reason ≢ Reason.BadChar) × (f.reason ≢ Reason.UnusedBits)) }
 {
     let (count, start) = read_compact(bytes, Target::U32)?;
     let Some(spelled) = bytes[start..].get(..count as usize) else {

@@ -1,7 +1,7 @@
 -- Bytes in hexadecimal digits.
 use Rattle.std.proofs.Common.{◌≡◌, ℕ, ◌+◌, ◌-◌, ◌*◌, ◌/◌, ◌%◌, ◌^◌, ◌≤◌, ◌<◌, List, [], ◌∷◌, ◌++◌}
 use Rattle.std.proofs.Common.{length, map, take, drop, get_or, slice_index, replicate, bit_and, w8}
-use Rattle.std.proofs.Common.{Fits, refl, sym, ap, ap₂, ◌∙◌, subst, arith, append-nil}
+use Rattle.std.proofs.Common.{Fits, refl, sym, ap, ap₂, ◌∙◌, subst, arith}
 use Rattle.std.proofs.Common.{length-take-le, length-drop}
 use Rattle.std.specs.List.{slice_range}
 use Rattle.std.proofs.lemmas.List.{take_all, get_or-map, length-map, ext_get_or}
@@ -13,7 +13,7 @@ use Rattle.std.proofs.Math.Seq.{take-add}
 use Rattle.hex.specs.Hex.{encode_with, encode_lower, lower_digits}
 use Rattle.hex.proofs.HexLemmas.{length-encode_with}
 use Rattle.token_core.specs.Places.{OnlyPlaced}
-use Rattle.token_core.proofs.Placing.{OnlyPlaced-then}
+use Rattle.token_core.proofs.Placing.{OnlyPlaced-then, nothing_placed}
 use lib.Lanes.{zip2, Each1, pick_l}
 
 -- the digits of bytes after others come after the digits of these
@@ -41,14 +41,8 @@ AreDigits bs old new at done = OnlyPlaced old new at (encode_lower (take done bs
 -- none are
 pub none_placed : (bs old : List ℕ) (at : ℕ) → AreDigits bs old old at 0
 unfolding encode_with
-none_placed bs old at = record {
-  placed = record {
-    bytes = ap (λ n. take n old) (omega arith) ∙ sym (append-nil (take at old));
-    moved = refl;
-    len = refl;
-  };
-  rest = refl;
-}
+none_placed bs old at = let start : at ≡ at + 2 * 0 = omega arith in
+    subst (λ n. OnlyPlaced old old at [] n) start (nothing_placed old at)
 
 -- those of the bytes up to a place are, and then those up to a later one
 pub next_placed : (bs old mid new : List ℕ) (at done next end : ℕ) → AreDigits bs old mid at done →

@@ -1,4 +1,5 @@
 pub mod Hexadecimal
+pub mod Binary
 pub mod Outputs
 pub mod Placing
 pub mod Decimal

@@ -123,7 +123,7 @@ escape_append (x ∷ a) b = ap (λ l. escape_byte x ++ l) (escape_append a b)
     ∙ sym (append_assoc (escape_byte x) _ _)
 
 -- a character from the minus sign to the digit 9 needs no escape
-escape_one : (x : ℕ) → 45 ≤ x → x < 58 → escape (x ∷ []) ≡ x ∷ []
+pub escape_one : (x : ℕ) → 45 ≤ x → x < 58 → escape (x ∷ []) ≡ x ∷ []
 escape_one x low high = ap (λ l. l ++ [])
     (escape_byte_plain x (λ e. omega (arith, e, low)) (λ e. omega (arith, e, high))
     (omega (arith, low)))

@@ -3,7 +3,7 @@ use Rattle.std.proofs.Common.{◌≡◌, ℕ, ◌+◌, ◌<◌, ◌≤◌, List,
 use Rattle.std.proofs.Common.{◌-◌}
 use Rattle.std.proofs.Common.{ap, ap₂, ◌∙◌, append_assoc, drop-cons, slice_index_or, slice_set}
 use Rattle.std.proofs.Common.{subst, arith, length-append, length-take-le, length-drop, take-add}
-use Rattle.std.proofs.Common.{take_at, take-append-drop, sym}
+use Rattle.std.proofs.Common.{take_at, take-append-drop, sym, append-nil}
 use Rattle.std.proofs.lemmas.List.{drop-drop, drop-set, take-set}
 use Rattle.std.proofs.lemmas.Slice.{drop-put_mid, take-put_mid}
 use borrow.Rule.Slice.PartMut.{put_mid, same_len_mid}
@@ -57,6 +57,13 @@ part_placed old ys xs at end ordered within long is =
       };
       rest = drop-put_mid at count old ys end after start long;
     })
+
+-- where nothing is written, no bytes are placed
+pub nothing_placed : (old : List ℕ) (at : ℕ) → OnlyPlaced old old at [] at
+nothing_placed old at = record {
+  placed = record { bytes = sym (append-nil (take at old)); moved = omega arith; len = refl };
+  rest = refl;
+}
 
 -- a second write begins where the first ended
 pub OnlyPlaced-then : {a b c xs ys : List ℕ} {i j k : ℕ} → OnlyPlaced a b i xs j →

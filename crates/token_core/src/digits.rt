@@ -1,10 +1,14 @@
-//! Writes bytes in hexadecimal digits, 0 to 9 and a to f, the higher half of each byte first.
+//! Writes bytes in hexadecimal digits, 0 to 9 and a to f, the higher half of each byte first, and
+//! bits in binary digits.
 
 ghost use Rattle.std.specs.Prelude.{◌≡◌, ◌+◌, ◌*◌, ◌/◌, ◌%◌, ◌≤◌, length, map, slice_index};
 ghost use Rattle.hex.specs.Hex.{encode_lower, lower_digits};
+ghost use Rattle.token_core.specs.Digits.{bit_digit, bit_digits};
 ghost use Rattle.token_core.specs.Places.{OnlyPlaced};
 
+use crate::places::place_bytes;
 use std::simd::prelude::*;
+use types_core::BitForm;
 
 /// How many bytes are turned into digits, or escaped, at once.
 pub(crate) const BLOCK: usize = 16;
@@ -83,4 +87,30 @@ pub(crate) fn place_hex(buffer: &mut [u8], at: usize, bytes: &[u8]) -> usize
     }
     let done = BLOCK * (bytes.len() / BLOCK);
     place_each(buffer, at + 2 * done, &bytes[done..])
+}
+
+/// Returns the digit of a bit.
+#[inline(always)]
+fn bit_digit(one: bool) -> u8
+    ensures { result ≡ bit_digit one }
+{
+    b'0' + u8::from(one)
+}
+
+/// Writes the digit of each of this many bits, in order.
+pub(crate) fn place_bits(
+    buffer: &mut [u8],
+    at: usize,
+    form: BitForm,
+    bytes: &[u8],
+    count: u32,
+) -> usize
+    requires { at + count ≤ length buffer.old }
+    ensures { OnlyPlaced buffer.old buffer.new at (bit_digits form bytes.now count) result }
+{
+    let mut end = at;
+    'bits: for bit in 0..count {
+        end = place_bytes(buffer, end, &[bit_digit(form.bit(bytes, bit))]);
+    }
+    end
 }

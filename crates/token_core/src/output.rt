@@ -7,6 +7,7 @@ ghost use Rattle.hex.specs.Hex.{encode_lower};
 ghost use Rattle.json.specs.Print.{quoted};
 ghost use Rattle.json.specs.Token.{begin_object, end_object, begin_array, end_array, key, string};
 ghost use Rattle.json.specs.Token.{number, boolean, null};
+ghost use Rattle.token_core.specs.Digits.{bit_digits};
 ghost use Rattle.token_core.specs.Places.{Appended};
 ghost use Rattle.plain_core.specs.Plain.{AreEscapes};
 
@@ -14,10 +15,11 @@ use crate::digits::BLOCK;
 use crate::places::{
     place_between, place_byte, place_bytes, place_comma, place_decimal, place_long,
 };
-use crate::strings::{place_escaped, place_hex_text};
+use crate::strings::{place_bits_text, place_escaped, place_hex_text};
 use plain_core::{Escapes, is_plain};
 use std::alloc::{AllocError, Allocator};
 use std::marker::Model;
+use types_core::BitForm;
 
 /// The most zeros that are appended beyond those that a token needs.
 const AHEAD: usize = 16 * 1024;
@@ -473,6 +475,23 @@ impl<A: Allocator> Output<A> {
         let buffer = self.bytes.as_mut_slice();
         let at = place_comma(buffer, self.len, self.after_value);
         self.len = place_hex_text(buffer, at, bytes);
+        self.after_value = true;
+        Ok(())
+    }
+
+    /// Appends a text of `0b` and the digit of each of this many bits, in order.
+    ///
+    /// # Errors
+    ///
+    /// `AllocError` if an allocation fails.
+    pub fn bits(&mut self, form: BitForm, bytes: &[u8], count: u32) -> Result<(), AllocError>
+        ensures { AddsTokens result self.old self.new
+            (string (codes "0b" ++ bit_digits form bytes.now count) ∷ []) }
+    {
+        ensure_bytes(&mut self.bytes, self.len, count as usize + 5)?;
+        let buffer = self.bytes.as_mut_slice();
+        let at = place_comma(buffer, self.len, self.after_value);
+        self.len = place_bits_text(buffer, at, form, bytes, count);
         self.after_value = true;
         Ok(())
     }

@@ -5,11 +5,13 @@ ghost use Rattle.std.specs.Char.{digit_char};
 ghost use Rattle.hex.specs.Hex.{encode_lower};
 ghost use Rattle.json.specs.Filled.{Placed};
 ghost use Rattle.json.specs.Print.{escape, escape_byte, escape_letter, quoted};
+ghost use Rattle.token_core.specs.Digits.{bit_digits};
 ghost use Rattle.token_core.specs.Places.{OnlyPlaced};
 
-use crate::digits::{BLOCK, place_hex};
+use crate::digits::{BLOCK, place_bits, place_hex};
 use crate::places::{place_between, place_byte, place_bytes};
 use plain_core::is_plain_16;
+use types_core::BitForm;
 
 /// Writes a text that needs no escape between quotes, and returns the position after it. The rest
 /// of the buffer is unchanged.
@@ -32,6 +34,25 @@ pub fn place_hex_text(buffer: &mut [u8], at: usize, bytes: &[u8]) -> usize
 {
     let at = place_bytes(buffer, at, b"\"0x");
     let at = place_hex(buffer, at, bytes);
+    place_bytes(buffer, at, b"\"")
+}
+
+/// Writes `0b` and the digit of each of this many bits between quotes, and returns the position
+/// after them. The rest of the buffer is unchanged.
+#[inline(always)]
+pub(crate) fn place_bits_text(
+    buffer: &mut [u8],
+    at: usize,
+    form: BitForm,
+    bytes: &[u8],
+    count: u32,
+) -> usize
+    requires { at + count + 4 ≤ length buffer.old }
+    ensures { OnlyPlaced buffer.old buffer.new at
+        (quoted (codes "0b" ++ bit_digits form bytes.now count)) result }
+{
+    let at = place_bytes(buffer, at, b"\"0b");
+    let at = place_bits(buffer, at, form, bytes, count);
     place_bytes(buffer, at, b"\"")
 }
 

@@ -1,3 +1,5 @@
+pub mod BitWords
+pub mod BitsAllowed
 pub mod KeyMaps
 pub mod KeyOrders
 pub mod Widths

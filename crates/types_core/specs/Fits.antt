@@ -45,7 +45,7 @@ FitsDefinition (def.Array len element) = (len < 2 ^ 32) × FitsId element
 FitsDefinition (def.Tuple members) = FitsList FitsId members
 FitsDefinition (def.Primitive p) = Unit {0}
 FitsDefinition (def.Compact target) = FitsId target
-FitsDefinition (def.BitSequence store order) = FitsId store × FitsId order
+FitsDefinition (def.BitSequence store order form) = FitsId store × FitsId order
 
 abbrev pub FitsType : TypeInfo → Type 0
 FitsType t = FitsTexts t.path × FitsList FitsParam t.params × FitsDefinition t.shape

@@ -1,3 +1,4 @@
+pub mod Bits
 pub mod Bytes
 pub mod Fits
 pub mod Keys

@@ -1,5 +1,6 @@
 //! The definitions of types.
 
+use crate::bits::BitForm;
 use crate::fields::Fields;
 use crate::items::Items;
 use crate::name::Name;
@@ -48,6 +49,11 @@ pub enum TypeDef {
     Primitive(Primitive),
     /// An unsigned integer in its compact form.
     Compact(TypeId),
-    /// Bits, stored in units of the type `store` in the order that `order` names.
-    BitSequence { store: TypeId, order: TypeId },
+    /// Bits, stored in words of the type `store` in the order that `order` names.
+    BitSequence {
+        store: TypeId,
+        order: TypeId,
+        /// How the bits are read, if they are allowed and known. A registry that was read has none.
+        form: Option<BitForm>,
+    },
 }

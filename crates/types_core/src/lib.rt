@@ -2,6 +2,7 @@
 //! registry_core offers them to users.
 #![tactic(auto)]
 
+mod bits;
 mod definition;
 mod fields;
 mod items;
@@ -14,6 +15,7 @@ mod text;
 mod type_id;
 mod type_info;
 
+pub use bits::{BitForm, BitOrder};
 pub use definition::{Arm, Field, TypeDef};
 pub use fields::Fields;
 pub use items::Items;

@@ -2,6 +2,8 @@
 
 ghost use Rattle.std.specs.Prelude.{◌≡◌};
 
+use crate::bits::bit_form;
+use crate::definition::TypeDef;
 use crate::type_info::TypeInfo;
 use std::marker::Model;
 
@@ -28,6 +30,7 @@ impl Model for Registry {
 }
 
 impl Registry {
+    ghost use Rattle.types_core.specs.Bits.{with_bits};
     ghost use Rattle.types_core.specs.Fits.{FitsRegistry};
 
     /// Creates a registry of types that have an encoding.
@@ -35,6 +38,25 @@ impl Registry {
         requires { FitsRegistry types.items }
         ensures { result ≡ types.items }
     {
+        Registry { types }
+    }
+
+    /// Allows bits: every bit sequence is read whose `store` is u8, u16, u32 or u64 itself and
+    /// whose `order` is a composite without fields, with a path that ends with `Lsb0` or `Msb0`.
+    /// Values of all others stay rejected.
+    #[tactic(auto, using(crate::proofs::BitsAllowed::all_done))]
+    pub fn with_bits(self) -> Registry
+        ensures { result ≡ with_bits self }
+    {
+        let Registry { mut types } = self;
+        'types: for at in 0..types.len() {
+            let TypeDef::BitSequence { store, order, .. } = &types[at].shape else {
+                continue 'types;
+            };
+            let (store, order) = (*store, *order);
+            let form = bit_form(types.as_slice(), store, order);
+            types[at].shape = TypeDef::BitSequence { store, order, form };
+        }
         Registry { types }
     }
 

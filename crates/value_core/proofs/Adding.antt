@@ -1,5 +1,6 @@
 -- A node more: the value that is being built stays one.
-use Rattle.std.proofs.Common.{Option, None, drop, ◌≡◌, ℕ, zero, suc, ◌+◌, ◌-◌, ◌≤◌, List, [], ◌∷◌}
+use Rattle.std.proofs.Common.{◌*◌, Option, None, drop, ◌≡◌, ℕ, zero, suc, ◌+◌, ◌-◌, ◌≤◌, List, []}
+use Rattle.std.proofs.Common.{◌∷◌}
 use Rattle.std.proofs.Common.{◌++◌, Bool, true, false, length, take, drop, slice_range, Some, refl}
 use Rattle.std.proofs.Common.{sym, ap, subst, ◌∙◌, arith, length-append}
 use Rattle.std.proofs.lemmas.List.{append-nil, length-map, map-append, take-append-le}
@@ -25,6 +26,7 @@ use Rattle.value_core.specs.Built.{IsLeaf, IsNextLeaf, IsNextOpen}
 use Rattle.value_core.specs.Building.{IsBuilding, IsOpenAt, IsOpenRun, pieces_shown}
 use Rattle.value_core.specs.Refusals.{missing_at}
 use Rattle.node_core.specs.declared.open_run.OpenRun.{OpenRun}
+use Rattle.widths_core.specs.RunBytes.{run_bytes}
 use Rattle.widths_core.specs.declared.run_kind.RunKind.{RunKind}
 use Rattle.std.specs.Prelude.{IfOk, IsSome, option_map, Result, Ok}
 use Rattle.std.proofs.lemmas.List.{length-drop, take_all}
@@ -65,6 +67,9 @@ head_more pool more n (content.Text len start) h =
 head_more pool more n (content.Bytes len start) h =
     ap (λ (x : List ℕ). head.leaf (tree.bytes x))
     (range_more pool more start (start + len) (omega arith) h)
+head_more pool more n (content.Bits unused len start) h =
+    ap (λ (x : List ℕ). head.leaf (tree.bits (8 * len - unused) x))
+    (range_more pool more start (start + len) (omega arith) h.0)
 head_more pool more n (content.LongUnsigned start) h =
     ap (λ (x : List ℕ). head.leaf (tree.unsigned (from_le_bytes w128 x)))
     (range_more pool more start (start + 16) (omega arith) h)
@@ -83,6 +88,8 @@ head_more pool more n _ h = refl
 within_more : (pool more : List ℕ) (c : Content) → IsInPool pool c → IsInPool (pool ++ more) c
 within_more pool more (content.Text len start) h = omega (arith, h, length-append pool more)
 within_more pool more (content.Bytes len start) h = omega (arith, h, length-append pool more)
+within_more pool more (content.Bits unused len start) h =
+    (omega (arith, h.0, length-append pool more), h.1)
 within_more pool more (content.LongUnsigned start) h = omega (arith, h, length-append pool more)
 within_more pool more (content.LongCompact start) h = omega (arith, h, length-append pool more)
 within_more pool more (content.LongSigned start) h = omega (arith, h, length-append pool more)
@@ -348,7 +355,8 @@ pub open_longer : (w : Walked) (pool more : List ℕ) (kept : ℕ) (run : Option
     (pieces_shown pool run))
 open_longer w pool more kept None p h some k = absurd cc
 open_longer w pool more kept (Some o) p h some k =
-    let lacks : length more ≤ o.len - length (drop o.start pool) = rw h.is_next at k in (
+    let lacks : length more ≤ run_bytes o.kind o.len - length (drop o.start pool) =
+    rw h.is_next at k in (
       record {
         is_next = h.is_next;
         inside = omega (arith, h.inside, length-append pool more);
@@ -380,11 +388,12 @@ longer_entries = entries_more
 pub open_whole : (w : Walked) (pool : List ℕ) (kept : ℕ) (o : OpenRun) (k : RunKind) →
     IsOpenAt w pool kept o.kind o.start o.len →
     missing_at (pieces_shown pool (Some o)) (next_of w) ≡ Ok (k, 0) →
-    (o.start + o.len ≡ length pool)
-    × (slice_range pool o.start (o.start + o.len) ≡ drop o.start pool)
+    (o.start + run_bytes o.kind o.len ≡ length pool)
+    × (slice_range pool o.start (o.start + run_bytes o.kind o.len) ≡ drop o.start pool)
 open_whole w pool kept o k h e =
-    let lacks : o.len - length (drop o.start pool) ≡ 0 = ok_is (rw h.is_next at e) in
-    let whole : o.start + o.len ≡ length pool =
+    let lacks : run_bytes o.kind o.len - length (drop o.start pool) ≡ 0 =
+    ok_is (rw h.is_next at e) in
+    let whole : o.start + run_bytes o.kind o.len ≡ length pool =
     omega (arith, lacks, h.inside, h.short, length-drop o.start pool) in (
       whole,
       ap (λ (k : ℕ). take k (drop o.start pool))

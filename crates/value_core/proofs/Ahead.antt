@@ -179,8 +179,8 @@ step_suits r c (Def.Array n u) s is o =
 step_suits r c (Def.Primitive p) s is o =
     suits_by_class c step.NoValue (step.Primitive p) s (Def.Primitive p) refl (λ e. absurd cc) is o
 step_suits r c (Def.Compact u) s is o = let no = rw is at o in absurd cc
-step_suits r c (Def.BitSequence store order) s is o =
-    suits_by_class c step.NoValue step.BitSequence s (Def.BitSequence store order) refl
+step_suits r c (Def.BitSequence store order form) s is o =
+    suits_by_class c step.NoValue (step.BitSequence form) s (Def.BitSequence store order form) refl
     (λ e. absurd cc) is o
 
 -- the type that is next, which is known, by a step that is not that of a type without values
@@ -258,7 +258,7 @@ fields_open w from count h a =
       go c (Def.Array m u) s is f = absurd cc
       go c (Def.Primitive p) s is f = absurd cc
       go c (Def.Compact u) s is f = absurd cc
-      go c (Def.BitSequence store order) s is f = absurd cc
+      go c (Def.BitSequence store order form) s is f = absurd cc
 
 -- where an array is next, so many of the type that the step ahead reports are its elements
 elements_open : (w : Walked) (n m t : ℕ) → next_of w ≡ next.Wants (form.Array n) →
@@ -281,7 +281,7 @@ elements_open w n m t h a =
       go c (Def.Tuple ts) s is f = absurd cc
       go c (Def.Primitive p) s is f = absurd cc
       go c (Def.Compact u) s is f = absurd cc
-      go c (Def.BitSequence store order) s is f = absurd cc
+      go c (Def.BitSequence store order form) s is f = absurd cc
 
 -- where a sequence is next, any number of the type that the step ahead reports are its elements
 sequence_elements_open : (w : Walked) (n t : ℕ) → next_of w ≡ next.Wants form.Sequence →
@@ -305,7 +305,7 @@ sequence_elements_open w n t h a =
       go c (Def.Tuple ts) s is f = absurd cc
       go c (Def.Primitive p) s is f = absurd cc
       go c (Def.Compact u) s is f = absurd cc
-      go c (Def.BitSequence store order) s is f = absurd cc
+      go c (Def.BitSequence store order form) s is f = absurd cc
 
 -- the arm that is found, with the parts that it opens
 abbrev opened_arm : Walked → ArmStep → ℕ × Part
@@ -385,7 +385,8 @@ fields_known w s h a = go s (with_form w form.Fields s h a) where
   go (step.ByteArray n) e = absurd cc
   go step.Bytes e = absurd cc
   go step.Count e = absurd cc
-  go step.BitSequence e = absurd cc
+  go (step.BitSequence None) e = absurd cc
+  go (step.BitSequence (Some bits)) e = absurd cc
 
 -- where an array is next, the step ahead is one of an array and reports its elements
 array_known : (w : Walked) (n : ℕ) (s : TypeStep) → next_of w ≡ next.Wants (form.Array n) →
@@ -406,7 +407,8 @@ array_known w n s h a = go s (with_form w (form.Array n) s h a) where
   go (step.ByteArray n) e = absurd cc
   go step.Bytes e = absurd cc
   go step.Count e = absurd cc
-  go step.BitSequence e = absurd cc
+  go (step.BitSequence None) e = absurd cc
+  go (step.BitSequence (Some bits)) e = absurd cc
 
 -- where a sequence is next, the step ahead is one of a sequence and reports its elements
 sequence_known : (w : Walked) (s : TypeStep) → next_of w ≡ next.Wants form.Sequence →
@@ -427,7 +429,8 @@ sequence_known w s h a = go s (with_form w form.Sequence s h a) where
   go (step.ByteArray n) e = absurd cc
   go step.Bytes e = absurd cc
   go step.Count e = absurd cc
-  go step.BitSequence e = absurd cc
+  go (step.BitSequence None) e = absurd cc
+  go (step.BitSequence (Some bits)) e = absurd cc
 
 -- ---- what is opened by the step that is ahead
 

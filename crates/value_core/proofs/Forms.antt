@@ -3,6 +3,7 @@ use Rattle.std.proofs.Common.{◌≡◌, ℕ, ◌+◌, ◌<◌, ◌≤◌, ◌�
 use Rattle.std.proofs.Common.{Option, Some, None, refl, subst, arith}
 use Rattle.std.specs.Prelude.{nat_lt, if◌then◌else◌}
 use Rattle.scale_core.specs.declared.compact.Target.{Target}
+use Rattle.types_core.specs.declared.bits.BitForm.{BitForm}
 use Rattle.types_core.specs.declared.definition.Arm.{Arm}
 use Rattle.types_core.specs.declared.primitive.Primitive.{Primitive}
 use Rattle.types_core.specs.declared.definition.TypeDef.{TypeDef}
@@ -12,7 +13,8 @@ use Rattle.graph_core.specs.Types.{shape, ids, field_types}
 use Rattle.widths_core.specs.Targets.{target_of}
 use Rattle.widths_core.specs.Classes.{is_finite, is_empty}
 use Rattle.widths_core.specs.Layouts.{Layout, layout, layout_of_shape, is_byte, sized_layout}
-use Rattle.widths_core.specs.Layouts.{primitive_layout, sequence_layout, compact_layout}
+use Rattle.widths_core.specs.Layouts.{bits_layout, primitive_layout, sequence_layout}
+use Rattle.widths_core.specs.Layouts.{compact_layout}
 use Rattle.widths_core.specs.Layouts as layout
 use Rattle.widths_core.specs.Layouts.{array_layout as array_layout_of}
 use Rattle.grammar_core.specs.declared.form.Form.{Form}
@@ -21,7 +23,7 @@ use Rattle.grammar_core.specs.declared.form.StopReason.{StopReason}
 use Rattle.grammar_core.specs.declared.form.StopReason.TheVariants as stop
 use Rattle.grammar_core.specs.declared.form.Next.TheVariants as next
 use Rattle.grammar_core.specs.Forms.{form_of, form_of_shape, array_form, sequence_form}
-use Rattle.grammar_core.specs.Forms.{compact_form, next_at}
+use Rattle.grammar_core.specs.Forms.{bits_form, compact_form, next_at}
 use Rattle.grammar_core.specs.Runs.{run_form}
 use Rattle.grammar_core.proofs.Classes.{shapeless}
 use Rattle.widths_core.specs.declared.run_kind.RunKind.{RunKind}
@@ -43,6 +45,7 @@ HasForm (form.ByteArray n) f = f ≡ layout.plain (layout.run (kind.ByteArray n)
 HasForm form.Bytes f = f ≡ layout.plain (layout.run kind.Bytes)
 HasForm form.Sequence f = (u : ℕ) × (f ≡ layout.sequence u)
 HasForm form.Count f = f ≡ (layout.plain layout.counted)
+HasForm (form.Bits b) f = f ≡ layout.plain (layout.run (kind.Bits b))
 
 -- the form that is wanted is this one
 has_form : (wanted is : Form) (f : Layout) → next.Wants is ≡ next.Wants wanted → HasForm is f →
@@ -71,6 +74,13 @@ compact_has wanted (Some m) e =
     has_form wanted (form.Compact m) (layout.plain (layout.compact m)) e refl
 compact_has wanted None e = absurd cc
 
+-- the form of a bit sequence is that of its layout
+bits_has : (wanted : Form) (o : Option BitForm) → bits_form o ≡ next.Wants wanted →
+    HasForm wanted (bits_layout o)
+bits_has wanted (Some b) e =
+    has_form wanted (form.Bits b) (layout.plain (layout.run (kind.Bits b))) e refl
+bits_has wanted None e = absurd cc
+
 -- the form by a definition is that of the layout by it
 sized_has : (r : List TypeInfo) (wanted : Form) (d : TypeDef) →
     form_of_shape r (Some d) ≡ next.Wants wanted → HasForm wanted (sized_layout r d)
@@ -85,7 +95,7 @@ sized_has r wanted (Def.Tuple ts) e =
 sized_has r wanted (Def.Primitive p) e =
     has_form wanted (form.Primitive p) (primitive_layout p) e refl
 sized_has r wanted (Def.Compact u) e = compact_has wanted (target_of r u.0) e
-sized_has r wanted (Def.BitSequence store order) e = absurd cc
+sized_has r wanted (Def.BitSequence store order bits) e = bits_has wanted bits e
 
 -- the form by whether bytes are taken and by the definition is that of the layout by both
 known_has : (r : List TypeInfo) (wanted : Form) (empty : Bool) (d : Option TypeDef) →
@@ -117,6 +127,7 @@ pub run_layout : (r : List TypeInfo) (t : ℕ) (k : RunKind) → form_of r t ≡
 run_layout r t kind.Text e = form_layout r t (form.Primitive P.Str) e
 run_layout r t kind.Bytes e = form_layout r t form.Bytes e
 run_layout r t (kind.ByteArray n) e = form_layout r t (form.ByteArray n) e
+run_layout r t (kind.Bits f) e = form_layout r t (form.Bits f) e
 
 -- a type whose form is a compact's with a target is laid out as a compact with this target
 pub compact_has_layout : (r : List TypeInfo) (t : ℕ) (m : Target) →
@@ -206,6 +217,13 @@ compact_has_reason reported d (Some m) e = absurd cc
 compact_has_reason reported d None e =
     has_reason reported stop.BadCompact d layout.bad_compact e refl
 
+-- where a bit sequence is a reason to stop, it is the one that its layout reports
+bits_has_reason : (reported : StopReason) (d : Option TypeDef) (o : Option BitForm) →
+    bits_form o ≡ next.Stop reported → HasReason reported d (bits_layout o)
+bits_has_reason reported d (Some b) e = absurd cc
+bits_has_reason reported d None e =
+    has_reason reported stop.BitSequence d layout.bit_sequence e refl
+
 -- where a type by its definition is a reason to stop, the definition or layout reports this one
 known_has_reason : (r : List TypeInfo) (reported : StopReason) (empty : Bool) (d : Option TypeDef) →
     (if empty then next.Wants form.Empty else form_of_shape r d) ≡ next.Stop reported →
@@ -223,9 +241,8 @@ known_has_reason r reported false (Some (Def.Tuple ts)) e = absurd cc
 known_has_reason r reported false (Some (Def.Primitive p)) e = absurd cc
 known_has_reason r reported false (Some (Def.Compact u)) e =
     compact_has_reason reported (Some (Def.Compact u)) (target_of r u.0) e
-known_has_reason r reported false (Some (Def.BitSequence store order)) e =
-    has_reason reported stop.BitSequence (Some (Def.BitSequence store order))
-    layout.bit_sequence e refl
+known_has_reason r reported false (Some (Def.BitSequence store order bits)) e =
+    bits_has_reason reported (Some (Def.BitSequence store order bits)) bits e
 
 -- where a finite type is a reason to stop, its definition or its layout reports this one
 reason_holds : (r : List TypeInfo) (t : ℕ) (reported : StopReason) →

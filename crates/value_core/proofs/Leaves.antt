@@ -27,6 +27,7 @@ text_is _ = refl
 pub text_short : (l : Leaf) → FitsLeaf l → leaf_text_bytes l < 2 ^ 32
 text_short (leaf.Text s) h = h
 text_short (leaf.Bytes s) h = h
+text_short (leaf.Bits n s) h = omega (arith, h.0, h.2)
 text_short _ h = omega arith
 
 -- a text or a run of bytes has its bytes in the pool
@@ -35,6 +36,8 @@ text_kept : (pool : List ℕ) (n : ℕ) (c : Content) →
 text_kept pool n (content.Text len start) =
     omega (arith, length-take (start + len - start) (drop start pool))
 text_kept pool n (content.Bytes len start) =
+    omega (arith, length-take (start + len - start) (drop start pool))
+text_kept pool n (content.Bits unused len start) =
     omega (arith, length-take (start + len - start) (drop start pool))
 text_kept pool n _ = omega arith
 

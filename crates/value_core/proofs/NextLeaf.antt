@@ -29,6 +29,7 @@ use Rattle.grammar_core.specs.declared.form.Form.{Form}
 use Rattle.grammar_core.specs.declared.form.Form.TheVariants as form
 use Rattle.grammar_core.specs.declared.form.Next.TheVariants as next
 use Rattle.value_core.specs.Built.{FitsKind, IsNextLeaf}
+use Rattle.widths_core.specs.RunBytes.{run_bytes}
 use Rattle.widths_core.specs.declared.run_kind.RunKind.{RunKind}
 use Rattle.widths_core.specs.declared.run_kind.RunKind.TheVariants as kind
 use Rattle.grammar_core.specs.Runs.{IsRun, IsRunLength, run_form, run_leaf}
@@ -105,21 +106,22 @@ run_own : (k : RunKind) (n : ℕ) → n < 2 ^ 32 → FitsKind k n → (c : List 
 run_own kind.Text n h f = (compact n, are_compact n, (omega (arith, h), refl))
 run_own kind.Bytes n h f = (compact n, are_compact n, (omega (arith, h), refl))
 run_own (kind.ByteArray m) n h f = ([], tt, (f, refl))
+run_own (kind.Bits f) n h fits = (compact n, are_compact n, (omega (arith, h), refl))
 
--- where a run is next, fewer than 2^32 bytes of its kind are a value for it, if it allows so many
-pub run_next : (w : Walked) (k : RunKind) (s : List ℕ) → next_of w ≡ next.Wants (run_form k) →
-    IsRun k s → AreBytes s → length s < 2 ^ 32 → FitsKind k (length s) →
-    IsNextLeaf w (head.leaf (run_leaf k s))
-run_next w k s e f a h fits =
-    let own = run_own k (length s) h fits in
-    leaf_next w (run_form k) (layout.run k) (run_leaf k s) (own.0 ++ s) e
+-- where a run is next, one of its kind of a length below 2^32 is a value for it, if it allows that
+pub run_next : (w : Walked) (k : RunKind) (n : ℕ) (s : List ℕ) →
+    next_of w ≡ next.Wants (run_form k) → IsRun k n s → AreBytes s → length s ≡ run_bytes k n →
+    n < 2 ^ 32 → FitsKind k n → IsNextLeaf w (head.leaf (run_leaf k (n, s)))
+run_next w k n s e f a len h fits =
+    let own = run_own k n h fits in
+    leaf_next w (run_form k) (layout.run k) (run_leaf k (n, s)) (own.0 ++ s) e
     (λ t g. run_layout w.types t k g) (both_bytes own.0 s own.1 a)
-    (s, refl, (own.0, own.2, f, refl))
+    ((n, s), refl, (own.0, own.2, len, f, refl))
 
 -- where a text is next, fewer than 2^32 bytes of UTF-8 are a value for it
 pub text_next : (w : Walked) (s : List ℕ) → next_of w ≡ next.Wants (form.Primitive P.Str) →
     is_utf8 s ≡ true → AreBytes s → length s < 2 ^ 32 → IsNextLeaf w (head.leaf (tree.text s))
-text_next w s e f a h = run_next w kind.Text s e f a h tt
+text_next w s e f a h = run_next w kind.Text (length s) s e f a refl h tt
 
 -- where an integer of 256 bits is next, any 32 bytes are a value for it
 pub wide_next : (w : Walked) (p : Primitive) (s : Signedness) (b : List ℕ) →

@@ -5,6 +5,7 @@ use Rattle.std.specs.Prelude.{if◌then◌else◌, option_map}
 use Rattle.scale_core.specs.declared.compact.Target.{Target}
 use Rattle.types_core.specs.declared.definition.Arm.{Arm}
 use Rattle.types_core.specs.declared.definition.Field.{Field}
+use Rattle.types_core.specs.declared.bits.BitForm.{BitForm}
 use Rattle.types_core.specs.declared.definition.TypeDef.{TypeDef}
 use Rattle.types_core.specs.declared.definition.TypeDef.TheVariants as Def
 use Rattle.types_core.specs.declared.type_id.TypeId.{TypeId}
@@ -19,8 +20,8 @@ use Rattle.widths_core.specs.Layouts as layout
 use Rattle.grammar_core.specs.declared.form.Form.{Form}
 use Rattle.grammar_core.specs.declared.form.Form.TheVariants as form
 use Rattle.grammar_core.specs.declared.form.Next.TheVariants as next
-use Rattle.grammar_core.specs.Forms.{form_of, form_of_shape, array_form, sequence_form}
-use Rattle.grammar_core.specs.Forms.{compact_form}
+use Rattle.grammar_core.specs.Forms.{bits_form, form_of, form_of_shape, array_form, sequence_form}
+use Rattle.grammar_core.specs.Forms.{bits_form, compact_form}
 use Rattle.grammar_core.specs.Parts.{each, times}
 use Rattle.value_core.specs.Walked.{Walked, next_type, next_of}
 use Rattle.value_core.specs.Opened.{shape_at, next_shape, OpensFields, OpensArm, OpensElements}
@@ -131,6 +132,11 @@ compact_no_arm : (m : Option Target) → compact_form m ≡ next.Wants form.Arm 
 compact_no_arm (Some m) e = absurd cc
 compact_no_arm None e = absurd cc
 
+-- neither has a bit sequence
+bits_no_arm : (o : Option BitForm) → bits_form o ≡ next.Wants form.Arm → ⊥
+bits_no_arm (Some b) e = absurd cc
+bits_no_arm None e = absurd cc
+
 abbrev Arms : List TypeInfo → Option TypeDef → Layout → Type 0
 Arms r d f = (arms : List Arm) × (d ≡ Some (Def.Variant arms)) × (f ≡ layout.arms arms)
 
@@ -148,7 +154,7 @@ arm_shape r false (Some (Def.Array n u)) e = absurd (array_no_arm n (is_byte (sh
 arm_shape r false (Some (Def.Tuple ts)) e = absurd cc
 arm_shape r false (Some (Def.Primitive p)) e = absurd cc
 arm_shape r false (Some (Def.Compact u)) e = absurd (compact_no_arm (target_of r u.0) e)
-arm_shape r false (Some (Def.BitSequence store order)) e = absurd cc
+arm_shape r false (Some (Def.BitSequence store order bits)) e = absurd (bits_no_arm bits e)
 
 -- a type whose form is that of an arm is a variant, laid out by its arms
 arms_of : (r : List TypeInfo) (t : ℕ) → form_of r t ≡ next.Wants form.Arm →

@@ -1,14 +1,18 @@
 -- What a form reports that is wanted for a whole node.
-use Rattle.std.proofs.Common.{◌≡◌, ◌∙◌, ℕ, Option, Some, None, Ok, Err, refl, ap}
+use Rattle.std.proofs.Common.{◌≡◌, ◌∙◌, ◌-◌, ℕ, List, length, Option, Some, None, Ok, Err, refl, ap}
 use Rattle.std.specs.Prelude.{Result}
 use Rattle.widths_core.specs.declared.run_kind.RunKind.{RunKind}
 use Rattle.widths_core.specs.declared.run_kind.RunKind.TheVariants as kind
+use Rattle.types_core.specs.declared.bits.BitForm.{BitForm}
+use Rattle.widths_core.specs.RunBytes.{run_bytes}
 use Rattle.value_core.specs.declared.build_fault.BuildFault.{BuildFault}
+use Rattle.value_core.specs.declared.build_fault.BuildFault.TheVariants as fault
 use Rattle.grammar_core.specs.declared.form.Form.{Form}
 use Rattle.grammar_core.specs.declared.form.Next.{Next}
 use Rattle.grammar_core.specs.declared.form.Next.TheVariants as next
-use Rattle.value_core.specs.Built.{Built, Pieces}
-use Rattle.value_core.specs.Refusals.{IsRunComplete, missing_bytes, missing_of, missing_text}
+use Rattle.value_core.specs.Built.{Built, IsClean, IsCleanRun, Pieces}
+use Rattle.value_core.specs.Refusals.{IsRunComplete, missing_at, missing_bytes, missing_of}
+use Rattle.value_core.specs.Refusals.{missing_text}
 use Rattle.value_core.specs.Refusals.{of_bytes}
 use Rattle.value_core.specs.Refusals.{of_text, while_closed, wanted_from, wanted_of}
 use Rattle.value_core.specs.Walked.{next_of}
@@ -39,6 +43,7 @@ pub bytes_whole : (b : Built) → missing_bytes b ≡ Ok 0 → IsRunComplete b
 bytes_whole b e = by (missing_of b) refl e where
   of : (k : RunKind) (n : ℕ) → of_bytes k n ≡ Ok 0 → n ≡ 0
   of kind.Text n e = absurd cc
+  of (kind.Bits f) n e = absurd cc
   of kind.Bytes n e = cc
   of (kind.ByteArray m) n e = cc
 
@@ -55,9 +60,39 @@ text_whole b e = by (missing_of b) refl e where
   of kind.Text n e = cc
   of kind.Bytes n e = absurd cc
   of (kind.ByteArray m) n e = absurd cc
+  of (kind.Bits f) n e = absurd cc
 
   by : (m : Result (RunKind × ℕ) BuildFault) → missing_of b ≡ m →
       ◌≡◌ {A = Result ℕ BuildFault} (elim m [ Ok x ↦ of_text x.0 x.1 | Err e ↦ Err e ]) (Ok 0) →
       IsRunComplete b
   by (Ok x) f e = (x.0, f ∙ ap (λ (n : ℕ). Ok (x.0, n)) (of x.0 x.1 e))
   by (Err fault) f e = absurd cc
+
+-- neither has unused bits
+of_kind : (b : Built) (of : RunKind → ℕ → Result ℕ BuildFault) →
+    ((f : BitForm) (n : ℕ) → of (kind.Bits f) n ≡ Err fault.WrongKind) → (n : ℕ) →
+    ◌≡◌ {A = Result ℕ BuildFault} (elim (missing_of b) [ Ok x ↦ of x.0 x.1 | Err e ↦ Err e ])
+    (Ok n) →
+    IsCleanRun b.run
+of_kind b of none n e = by b.run (next_of b.walk) e where
+  kinds : (k : RunKind) (m len : ℕ) (s : List ℕ) → of k m ≡ Ok n → IsClean k len s
+  kinds (kind.Bits f) m len s e = let no = none f m in absurd cc
+  kinds kind.Text m len s e = tt
+  kinds kind.Bytes m len s e = tt
+  kinds (kind.ByteArray i) m len s e = tt
+
+  by : (run : Option Pieces) (x : Next) → ◌≡◌ {A = Result ℕ BuildFault}
+      (elim (missing_at run x) [ Ok y ↦ of y.0 y.1 | Err e ↦ Err e ]) (Ok n) → IsCleanRun run
+  by None x e = tt
+  by (Some t) next.Finished e = absurd cc
+  by (Some t) (next.Stop r) e = absurd cc
+  by (Some t) (next.Wants f) e =
+      kinds t.kind (run_bytes t.kind t.len - length t.bytes) t.len t.bytes e
+
+-- an open run of bytes has no unused bits
+pub bytes_clean : (b : Built) (n : ℕ) → missing_bytes b ≡ Ok n → IsCleanRun b.run
+bytes_clean b n e = of_kind b of_bytes (λ f m. refl) n e
+
+-- nor has an open text
+pub text_clean : (b : Built) (n : ℕ) → missing_text b ≡ Ok n → IsCleanRun b.run
+text_clean b n e = of_kind b of_text (λ f m. refl) n e

@@ -10,6 +10,7 @@ use Rattle.value_core.specs.Walked.{Walked, next_of}
 use Rattle.grammar_core.specs.Runs.{run_form}
 use Rattle.grammar_core.specs.declared.form.Next.TheVariants as next
 use Rattle.node_core.specs.declared.node.Node.{Node}
+use Rattle.widths_core.specs.RunBytes.{run_bytes}
 use Rattle.widths_core.specs.declared.run_kind.RunKind.{RunKind}
 use Rattle.node_core.specs.declared.open_run.OpenRun.{OpenRun}
 
@@ -43,12 +44,13 @@ abbrev pub pieces_shown : List ℕ → Option OpenRun → Option Pieces
 pieces_shown pool open_run =
     option_map (λ o. record { kind = o.kind; len = o.len; bytes = drop o.start pool }) open_run
 
--- an open run is next, has at most `len` bytes so far, and begins where the bytes of all nodes end
+-- an open run of length `len` is next, has no more bytes so far than it will have, and begins where
+-- the bytes of all nodes end
 pub record IsOpenAt (w : Walked) (pool : List ℕ) (kept : ℕ) (k : RunKind) (start len : ℕ) : Type 0
   where
     pub is_next : next_of w ≡ next.Wants (run_form k)
     pub inside : start ≤ length pool
-    pub short : length pool ≤ start + len
+    pub short : length pool ≤ start + run_bytes k len
     pub behind : kept ≡ start
     pub are_bytes : AreBytes (drop start pool)
     pub spelled : len < 2 ^ 32

@@ -2,6 +2,7 @@
 use Rattle.std.specs.Prelude.{◌≡◌, ℕ, ◌+◌, ◌-◌, ◌≤◌, List, [], ◌∷◌, ◌++◌, length, map, Option, Some}
 use Rattle.std.specs.Prelude.{None, option_map, true}
 use Rattle.scale_core.specs.Number.{AreBytes}
+use Rattle.types_core.specs.Bits.{first_unused}
 use Rattle.types_core.specs.declared.definition.Arm.{Arm}
 use Rattle.graph_core.specs.Types.{field_types}
 use Rattle.widths_core.specs.Arms.{arm_of}
@@ -28,7 +29,8 @@ use Rattle.value_core.specs.Walked.{OpenPart, Walked, next_of, next_type, advanc
 use Rattle.value_core.specs.Opened.{next_shape}
 use Rattle.node_core.specs.declared.node.Node.{Node}
 
--- a text or a run of bytes that comes in pieces: its kind, its length, and its bytes so far
+-- a text, a run of bytes or words of bits that come in pieces: the kind, the length, and the bytes
+-- so far
 pub record Pieces : Type 0 where
   pub kind : RunKind
   pub len : ℕ
@@ -50,6 +52,7 @@ entries_shown pool ns =
 abbrev pub head_text_bytes : Head → ℕ
 head_text_bytes (head.leaf (tree.text s)) = length s
 head_text_bytes (head.leaf (tree.bytes s)) = length s
+head_text_bytes (head.leaf (tree.bits n s)) = length s
 head_text_bytes _ = 0
 
 -- the number of bytes of all texts and runs of bytes
@@ -204,8 +207,27 @@ with_piece b piece = record b {
 
 -- the node that the open run becomes
 abbrev pub run_head : Option Pieces → Head
-run_head (Some t) = head.leaf (run_leaf t.kind t.bytes)
+run_head (Some t) = head.leaf (run_leaf t.kind (t.len, t.bytes))
 run_head None = head.leaf tree.unit
+
+-- in these words of n bits no unused bit is 1; another run has none
+abbrev pub IsClean : RunKind → ℕ → List ℕ → Type 0
+IsClean (kind.Bits f) n s = first_unused f n 0 s ≡ None
+IsClean _ n s = Unit {0}
+
+abbrev pub IsCleanRun : Option Pieces → Type 0
+IsCleanRun (Some t) = IsClean t.kind t.len t.bytes
+IsCleanRun None = Unit {0}
+
+-- how many bytes of a piece stand before the first one with an unused bit of 1, after so many bytes
+-- of a run
+abbrev pub unused_of : RunKind → ℕ → ℕ → List ℕ → Option ℕ
+unused_of (kind.Bits f) n at piece = first_unused f n at piece
+unused_of _ n at piece = None
+
+abbrev pub unused_in : Option Pieces → List ℕ → Option ℕ
+unused_in (Some t) piece = unused_of t.kind t.len (length t.bytes) piece
+unused_in None piece = None
 
 -- the open run is added as the next node
 abbrev pub with_run_ended : Built → Built

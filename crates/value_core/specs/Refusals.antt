@@ -2,10 +2,11 @@
 use Rattle.std.specs.Prelude.{◌≡◌, ℕ, ◌+◌, ◌-◌, ◌/◌, ◌^◌, ℤ, pos, negsuc, List, [], ◌∷◌, length}
 use Rattle.std.specs.Prelude.{Bool}
 use Rattle.std.specs.Prelude.{true, false, Option, Some, None, Result, Ok, Err, nat_lt, ◌==◌, not}
-use Rattle.std.specs.Prelude.{is_none, option_map, if◌then◌else◌}
+use Rattle.std.specs.Prelude.{is_none, option_map, if◌then◌else◌, ◌&&◌}
 use Rattle.std.specs.Str.{is_utf8}
 use Rattle.std.specs.Str.Lossy.{utf8_valid_len}
 use Rattle.scale_core.specs.Compact.{target_bytes}
+use Rattle.types_core.specs.Bits.{bits_bytes, first_unused}
 use Rattle.types_core.specs.Kinds.{kind_of, width_bytes}
 use Rattle.types_core.specs.declared.kind.IntegerWidth.{IntegerWidth}
 use Rattle.types_core.specs.declared.kind.PrimitiveKind.{PrimitiveKind}
@@ -23,6 +24,7 @@ use Rattle.grammar_core.specs.declared.form.Next.{Next}
 use Rattle.grammar_core.specs.declared.form.Next.TheVariants as next
 use Rattle.grammar_core.specs.declared.form.StopReason.{StopReason}
 use Rattle.grammar_core.specs.declared.form.StopReason.TheVariants as stop
+use Rattle.widths_core.specs.RunBytes.{run_bytes}
 use Rattle.widths_core.specs.declared.run_kind.RunKind.{RunKind}
 use Rattle.widths_core.specs.declared.run_kind.RunKind.TheVariants as kind
 use Rattle.value_core.specs.Built.{Built, Pieces, arm_in, next_layout}
@@ -199,6 +201,12 @@ suits_bytes s form.Bytes = in_range (nat_lt (length s) (2 ^ 32))
 suits_bytes s (form.ByteArray n) = in_range (length s == n)
 suits_bytes s _ = wrong
 
+-- these are the words of n bits, of which the unused ones are 0
+abbrev pub suits_bits : ℕ → List ℕ → Form → Option BuildFault
+suits_bits n s (form.Bits f) =
+    in_range ((length s == bits_bytes f n) && is_none (first_unused f n 0 s))
+suits_bits n s _ = wrong
+
 abbrev pub suits_text_start : Form → Option BuildFault
 suits_text_start (form.Primitive P.Str) = None
 suits_text_start _ = wrong
@@ -210,12 +218,12 @@ suits_bytes_start len _ = wrong
 
 -- a run is open, and `missing` bytes of it are missing
 abbrev pub Lacks : Option Pieces → ℕ → Type 0
-Lacks (Some t) missing = length t.bytes + missing ≡ t.len
+Lacks (Some t) missing = length t.bytes + missing ≡ run_bytes t.kind t.len
 Lacks None missing = ⊥
 
 -- the kind of the open run, and how many bytes it lacks
 abbrev pub missing_from : Option Pieces → Result (RunKind × ℕ) BuildFault
-missing_from (Some t) = Ok (t.kind, t.len - length t.bytes)
+missing_from (Some t) = Ok (t.kind, run_bytes t.kind t.len - length t.bytes)
 missing_from None = Err fault.WrongKind
 
 abbrev pub missing_at : Option Pieces → Next → Result (RunKind × ℕ) BuildFault
@@ -240,6 +248,7 @@ missing_text b = elim (missing_of b) [ Ok m ↦ of_text m.0 m.1 | Err e ↦ Err 
 
 abbrev pub of_bytes : RunKind → ℕ → Result ℕ BuildFault
 of_bytes kind.Text n = Err fault.WrongKind
+of_bytes (kind.Bits f) n = Err fault.WrongKind
 of_bytes _ n = Ok n
 
 abbrev pub missing_bytes : Built → Result ℕ BuildFault

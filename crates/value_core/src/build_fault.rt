@@ -14,7 +14,7 @@ pub enum BuildFault {
     TooDeep,
     /// The next type has no finite value.
     NoFiniteValue,
-    /// The next type is a bit sequence, whose values are left out.
+    /// The next type is a bit sequence that isn't read.
     BitSequence,
     /// The next type is a compact that wraps no unsigned integer.
     BadCompact,

@@ -1,11 +1,14 @@
 //! A builder whose calls do not judge what they are given.
 
-ghost use Rattle.std.specs.Prelude.{◌≡◌, ◌≤◌, [], length, true, OnOk, OnErr, IfOk, IfSome, None};
+ghost use Rattle.std.specs.Prelude.{◌≡◌, ◌≤◌, ◌<◌, ◌+◌, ◌^◌, [], length, true, OnOk, OnErr, IfOk};
+ghost use Rattle.std.specs.Prelude.{IfSome, None};
 ghost use Rattle.std.specs.Prelude.{IsSome, is_some, option_map};
+ghost use Rattle.widths_core.specs.RunBytes.{run_bytes};
 ghost use Rattle.grammar_core.specs.Runs.{run_form};
 ghost use Rattle.value_core.specs.Begun.{IsBegun};
 ghost use Rattle.value_core.specs.Built.{built_text_bytes, finished, with_piece, with_run_closed};
-ghost use Rattle.value_core.specs.Built.{with_run_opened, FitsKind};
+ghost use Rattle.value_core.specs.Built.{with_run_opened, FitsKind, IsCleanRun, pieces_bytes};
+ghost use Rattle.value_core.specs.Built.{unused_in};
 ghost use Rattle.value_core.specs.Refusals.{IsRunComplete, Lacks, bad_text, is_complete};
 ghost use Rattle.value_core.specs.Refusals.{missing_of};
 ghost use Rattle.value_core.specs.Walked.{next_of, start_of};
@@ -142,7 +145,7 @@ impl<'r, A: Allocator> RawBuilder<'r, A> {
         turns
     }
 
-    /// Begins a text or a run of `len` bytes, which must be next.
+    /// Begins a text or a run of `len` bytes, or the words of `len` bits, which must be next.
     pub fn open_run(&mut self, kind: RunKind, len: u32)
         requires closed { self.old.run ≡ None }
         requires next { next_of self.old.walk ≡ Next.Wants (run_form kind) }
@@ -168,7 +171,7 @@ impl<'r, A: Allocator> RawBuilder<'r, A> {
         self.open_run.map(|open| open.kind)
     }
 
-    /// Returns the length of the open run, in bytes.
+    /// Returns the length of the open run: its number of bytes, or of bits.
     pub fn run_len(&self) -> u32
         requires { IsSome self.now.run }
         ensures { IfSome self.now.run (λ run. result ≡ run.len) }
@@ -176,14 +179,43 @@ impl<'r, A: Allocator> RawBuilder<'r, A> {
         self.open_run.map_or(0, |open| open.len)
     }
 
+    /// Returns how many bytes of the open run have come, or 0 if none is open.
+    pub fn run_so_far(&self) -> usize
+        ensures exact { result ≡ length (pieces_bytes self.now.run) }
+        ensures bound { result < 2 ^ 63 }
+    {
+        match self.open_run {
+            Some(open) => self.pool.as_slice().len() - open.start,
+            None => 0,
+        }
+    }
+
     /// Returns how many bytes the open run still lacks.
     pub fn run_missing(&self) -> usize
         requires { IsSome self.now.run }
-        ensures { Lacks self.now.run result }
+        ensures lacks { Lacks self.now.run result }
+        ensures bound { result < 2 ^ 32 }
     {
         match self.open_run {
-            Some(open) => open.len as usize - (self.pool.as_slice().len() - open.start),
+            Some(open) => { open.kind.bytes(open.len) - (self.pool.as_slice().len() - open.start) }
             None => 0,
+        }
+    }
+
+    /// Returns how many bytes of a piece stand before the first one with an unused bit that is 1,
+    /// if the open run is words of bits and there is such a byte. The run must lack as many bytes.
+    pub fn unused_in(&self, piece: &[u8]) -> Option<usize>
+        requires { IfSome self.now.run
+            (λ run. length run.bytes + length piece.now ≤ run_bytes run.kind run.len) }
+        ensures exact { result ≡ unused_in self.now.run piece.now }
+        ensures within { IfSome result (λ at. at < length piece.now) }
+    {
+        let open = self.open_run?;
+        match open.kind {
+            RunKind::Bits(form) => {
+                form.unused_at(open.len, self.pool.as_slice().len() - open.start, piece)
+            }
+            RunKind::Text | RunKind::Bytes | RunKind::ByteArray(_) => None,
         }
     }
 
@@ -200,7 +232,7 @@ impl<'r, A: Allocator> RawBuilder<'r, A> {
         ensures err { OnErr result (self.new ≡ self.old) }
     {
         let whole = match self.open_run {
-            Some(open) => open.start + open.len as usize,
+            Some(open) => open.start + open.kind.bytes(open.len),
             None => 0,
         };
         put_piece(&mut self.pool, piece, whole)?;
@@ -218,12 +250,12 @@ impl<'r, A: Allocator> RawBuilder<'r, A> {
                 Ok(_) => None,
                 Err(fault) => Some(fault.valid_up_to() as u64),
             },
-            RunKind::Bytes | RunKind::ByteArray(_) => None,
+            RunKind::Bytes | RunKind::ByteArray(_) | RunKind::Bits(_) => None,
         }
     }
 
-    /// Adds the open run as the next node. It must be complete, and a text must be UTF-8. No-op if
-    /// no run is open.
+    /// Adds the open run as the next node. It must be complete, a text must be UTF-8, and unused
+    /// bits must be 0. No-op if no run is open.
     ///
     /// # Errors
     ///
@@ -231,6 +263,7 @@ impl<'r, A: Allocator> RawBuilder<'r, A> {
     pub fn close_run(&mut self) -> Result<(), AllocError>
         requires whole { IfSome self.old.run (λ run. IsRunComplete self.old) }
         requires valid { bad_text self.old.run ≡ None }
+        requires clean { IsCleanRun self.old.run }
         ensures ok { OnOk result (self.new ≡ with_run_closed self.old) }
         ensures err { OnErr result (self.new ≡ self.old) }
     {
@@ -243,7 +276,7 @@ impl<'r, A: Allocator> RawBuilder<'r, A> {
             content: open.content(),
         };
         append_node(&mut self.nodes, &mut self.pool, &self.walk, node)?;
-        self.text_len += open.len as usize;
+        self.text_len += open.kind.bytes(open.len);
         self.open_run = None;
         self.walk.advance();
         close_complete(&mut self.walk, &mut self.nodes, &mut self.turns);

@@ -1,12 +1,13 @@
-//! The judging calls that add a text or a run of bytes, complete or in pieces.
+//! The judging calls that add a text or a run of bytes, complete or in pieces, or a bit sequence.
 
 ghost use Rattle.std.specs.Prelude.{◌≡◌};
 ghost use Rattle.grammar_core.specs.Preorder as head;
 ghost use Rattle.grammar_core.specs.Tree as tree;
 ghost use Rattle.value_core.specs.Built.{with_bytes_opened, with_leaf, with_piece, with_run_ended};
-ghost use Rattle.value_core.specs.Built.{with_run_opened};
+ghost use Rattle.value_core.specs.Built.{IsCleanRun, with_run_opened};
 ghost use Rattle.value_core.specs.Refusals.{Adds, IsRunComplete, judged, judged_end, judged_piece};
-ghost use Rattle.value_core.specs.Refusals.{missing_bytes, missing_text, run_fault, suits_bytes};
+ghost use Rattle.value_core.specs.Refusals.{missing_bytes, missing_text, run_fault, suits_bits};
+ghost use Rattle.value_core.specs.Refusals.{suits_bytes};
 ghost use Rattle.value_core.specs.Refusals.{suits_bytes_start, suits_text, suits_text_start};
 
 use crate::build_fault::BuildFault;
@@ -59,6 +60,30 @@ impl<'r, A: Allocator> Builder<'r, A> {
         }
         self.raw.add_leaf(Leaf::Bytes(bytes))?;
         Ok(())
+    }
+
+    /// Adds a bit sequence: its number of bits, and the bytes of the words that hold them. Where
+    /// the bits stand in the words says [`BitForm`](types_core::BitForm).
+    ///
+    /// # Errors
+    ///
+    /// Those of [`empty`](Self::empty), and `OutOfRange` if there are not as many bytes as the
+    /// words have, or an unused bit is 1.
+    #[tactic(auto, using(crate::proofs::Wanted::wanted_next, crate::proofs::Wanted::wanted_closed))]
+    pub fn bits(&mut self, count: u32, bytes: &[u8]) -> Result<(), BuildFault>
+        ensures { Adds (judged (suits_bits count bytes.now) self.old)
+            (with_leaf self.old (head.leaf (tree.bits count bytes.now))) self.old self.new result }
+    {
+        let Form::Bits(form) = self.wanted()? else {
+            return Err(BuildFault::WrongKind);
+        };
+        if bytes.len() != form.bytes(count) {
+            return Err(BuildFault::OutOfRange);
+        }
+        match form.unused_at(count, 0, bytes) {
+            Some(_) => Err(BuildFault::OutOfRange),
+            None => Ok(self.raw.add_leaf(Leaf::Bits(count, bytes))?),
+        }
     }
 
     /// Begins a text of `len` bytes, which come in pieces. Until `text_end`, every call that adds a
@@ -204,8 +229,8 @@ impl<'r, A: Allocator> Builder<'r, A> {
         ensures { result ≡ missing_bytes self.now }
     {
         match self.missing()? {
-            (RunKind::Text, _) => Err(BuildFault::WrongKind),
-            (_, missing) => Ok(missing),
+            (RunKind::Bytes | RunKind::ByteArray(_), missing) => Ok(missing),
+            _ => Err(BuildFault::WrongKind),
         }
     }
 
@@ -215,7 +240,8 @@ impl<'r, A: Allocator> Builder<'r, A> {
     ///
     /// `BadText` if it is a text that is not UTF-8, and `OutOfMemory` if an allocation fails.
     fn end_run(&mut self) -> Result<(), BuildFault>
-        requires { IsRunComplete self.old }
+        requires whole { IsRunComplete self.old }
+        requires clean { IsCleanRun self.old.run }
         ensures { Adds (run_fault self.old.run) (with_run_ended self.old) self.old self.new result }
     {
         match self.raw.bad_text() {

@@ -136,8 +136,8 @@ impl<'r, A: Allocator> Walk<'r, A> {
     /// there can be none (SCALE codec, "Types").
     ///
     /// If several reasons apply, it is the first of: a depth above the limit, a type without a
-    /// finite value, a bit sequence, a compact that wraps no unsigned integer. It allocates
-    /// nothing.
+    /// finite value, a bit sequence that isn't read, a compact that wraps no unsigned integer. It
+    /// allocates nothing.
     #[inline(always)]
     pub fn next(&self) -> Next
         ensures { result ≡ next_of self.now }

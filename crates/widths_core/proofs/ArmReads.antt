@@ -77,7 +77,8 @@ rowless r refs Row c (Def.Array n u) s other h =
     (array_no_row (is_byte (shape r u.0)) n u.0))
 rowless r refs Row c (Def.Primitive p) s other h = rw h (row_by c (step.Primitive p) refl)
 rowless r refs Row c (Def.Compact u) s other h = rw h refl
-rowless r refs Row c (Def.BitSequence store order) s other h = rw h (row_by c step.BitSequence refl)
+rowless r refs Row c (Def.BitSequence store order form) s other h =
+    rw h (row_by c (step.BitSequence form) refl)
 
 -- a type whose step reports a row is a variant, and the row is that of its arms
 row_of : (r : List TypeInfo) (refs : List ℕ) (rows : Rows) (t : ℕ) (d : TypeDef) (s : TypeStep)
@@ -110,8 +111,8 @@ row_of r refs rows t (Def.Primitive q) s p e h f = let no =
 row_of r refs rows t (Def.Compact u) s p e h f = let no =
     sym (rowless r refs (IsRow refs rows) (class_of r t) (Def.Compact u) s (λ arms q. absurd cc) h)
     ∙ f in absurd cc
-row_of r refs rows t (Def.BitSequence store order) s p e h f = let no =
-    sym (rowless r refs (IsRow refs rows) (class_of r t) (Def.BitSequence store order) s
+row_of r refs rows t (Def.BitSequence store order form) s p e h f = let no =
+    sym (rowless r refs (IsRow refs rows) (class_of r t) (Def.BitSequence store order form) s
     (λ arms q. absurd cc) h) ∙ f in absurd cc
 
 -- a type whose step reports no row has no arm, whatever the index
@@ -127,7 +128,7 @@ armless r refs rows t i (Def.Sequence u) s e h f = refl
 armless r refs rows t i (Def.Array n u) s e h f = refl
 armless r refs rows t i (Def.Primitive p) s e h f = refl
 armless r refs rows t i (Def.Compact u) s e h f = refl
-armless r refs rows t i (Def.BitSequence store order) s e h f = refl
+armless r refs rows t i (Def.BitSequence store order form) s e h f = refl
 
 -- the row of a variant
 pub row_at : (r : List TypeInfo) (refs : List ℕ) (rows : Rows) (steps : List TypeStep) (t : ℕ)

@@ -13,7 +13,6 @@ use Rattle.types_core.specs.declared.definition.Arm.{Arm}
 use Rattle.types_core.specs.declared.definition.TypeDef.{TypeDef}
 use Rattle.types_core.specs.declared.definition.TypeDef.TheVariants as Def
 use Rattle.types_core.specs.declared.type_info.TypeInfo.{TypeInfo}
-use Rattle.widths_core.specs.declared.class.Class.{Class}
 use Rattle.widths_core.specs.declared.class.Class.TheVariants as class
 use Rattle.widths_core.specs.declared.counter.Kind.TheVariants as kind
 use Rattle.widths_core.specs.declared.counter.Counter.{Counter}
@@ -85,7 +84,7 @@ so_far_first r (Def.Array n u) x = refl
 so_far_first r (Def.Tuple ts) x = refl
 so_far_first r (Def.Primitive p) x = refl
 so_far_first r (Def.Compact u) x = refl
-so_far_first r (Def.BitSequence store order) x = refl
+so_far_first r (Def.BitSequence store order form) x = refl
 
 -- at each place within the table stands a step
 get_some : (xs : List TypeStep) (t : ℕ) → t < length xs → (x : TypeStep) × (slice_get xs t ≡ Some x)
@@ -250,7 +249,7 @@ step_closed f t (Def.Array (suc n) u) h k e = h.0.at refl (rw e refl)
 step_closed f t (Def.Tuple ts) h k e = h.0.at (settles_parts (length ts)) e
 step_closed f t (Def.Primitive p) h k e = h.0.at refl refl
 step_closed f t (Def.Compact u) h k e = k.0.at refl
-step_closed f t (Def.BitSequence store order) h k e = h.0.at refl refl
+step_closed f t (Def.BitSequence store order form) h k e = h.0.at refl refl
 
 -- a test that holds at a position holds of the definition that stands there
 by_shape : (r : List TypeInfo) (t : ℕ) (P : Type 0) (test : TypeDef → Bool) →
@@ -299,7 +298,7 @@ target_closed f t (Def.Tuple ts) below m h k e =
     members_closed f t below m (ids ts) k (h.0.at (settles_parts (length ts))) e
 target_closed f t (Def.Primitive p) below m h k e = h.0.at refl refl
 target_closed f t (Def.Compact u) below m h k e = absurd cc
-target_closed f t (Def.BitSequence store order) below m h k e = absurd cc
+target_closed f t (Def.BitSequence store order form) below m h k e = absurd cc
 
 -- where all rules are closed, each type that has a target has settled
 target_settled : (r : List TypeInfo) (f : ℕ → Bool) → AllByRecursion (ClosesRule f) (rules r) →

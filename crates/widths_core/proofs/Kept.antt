@@ -75,4 +75,4 @@ draft_kept xs ys a b (Def.Sequence t) s k h = h
 draft_kept xs ys a b (Def.Array n t) s k h = h
 draft_kept xs ys a b (Def.Primitive p) s k h = h
 draft_kept xs ys a b (Def.Compact t) s k h = h
-draft_kept xs ys a b (Def.BitSequence store order) s k h = h
+draft_kept xs ys a b (Def.BitSequence store order form) s k h = h

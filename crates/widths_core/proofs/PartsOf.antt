@@ -41,7 +41,7 @@ parts_of t (Def.Array (suc n) u) = refl
 parts_of t (Def.Tuple ts) = append-nil (ids ts)
 parts_of t (Def.Primitive p) = refl
 parts_of t (Def.Compact u) = refl
-parts_of t (Def.BitSequence store order) = refl
+parts_of t (Def.BitSequence store order form) = refl
 
 -- the parts of the rules of types are the references of their definitions, in the same order
 pub parts_from : (t : ℕ) (r : List TypeInfo) →

@@ -27,7 +27,7 @@ HasKind (Def.Array (suc n) u) k ps = (k ≡ kind.Array) × (ps ≡ u.0 ∷ [])
 HasKind (Def.Tuple ts) k ps = k ≡ kind_of_parts (length ts)
 HasKind (Def.Primitive p) k ps = k ≡ kind.Fixed (found_of_primitive p)
 HasKind (Def.Compact u) k ps = (k ≡ kind.Compact) × (ps ≡ u.0 ∷ [])
-HasKind (Def.BitSequence store order) k ps = k ≡ kind.Fixed found_sized
+HasKind (Def.BitSequence store order form) k ps = k ≡ kind.Fixed found_sized
 
 -- a rule is one of its owner's definition
 pub record IsRuleOf (r : List TypeInfo) (x : Rule) : Type 0 where
@@ -72,8 +72,8 @@ rules_kind r t (Def.Primitive p) e =
     (record { definition = Def.Primitive p; at = e; kind = refl }, tt)
 rules_kind r t (Def.Compact u) e =
     (record { definition = Def.Compact u; at = e; kind = (refl, refl) }, tt)
-rules_kind r t (Def.BitSequence store order) e =
-    (record { definition = Def.BitSequence store order; at = e; kind = refl }, tt)
+rules_kind r t (Def.BitSequence store order form) e =
+    (record { definition = Def.BitSequence store order form; at = e; kind = refl }, tt)
 
 -- the same of types that stand in a registry from a position on
 rules_from_kind : (r : List TypeInfo) (s : List TypeInfo) (t : ℕ) →

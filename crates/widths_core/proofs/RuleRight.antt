@@ -143,7 +143,7 @@ rules_right r t (Def.Tuple ts) lt c m =
 rules_right r t (Def.Primitive p) lt c m =
     (record { owner = lt; right = (refl, (λ h. c), m ∙ same_target r (kind_of p)) }, tt)
 rules_right r t (Def.Compact u) lt c m = (record { owner = lt; right = (u.0, refl, c, m) }, tt)
-rules_right r t (Def.BitSequence store order) lt c m =
+rules_right r t (Def.BitSequence store order form) lt c m =
     (record { owner = lt; right = (refl, (λ h. c), m) }, tt)
 
 -- ---- all rules

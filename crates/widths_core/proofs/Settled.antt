@@ -97,7 +97,7 @@ has_value-step targets f (Def.Array (suc n) t) = refl
 has_value-step targets f (Def.Tuple ts) = has_value-parts f (ids ts)
 has_value-step targets f (Def.Primitive p) = refl
 has_value-step targets f (Def.Compact t) = (compact_class (is_unit (targets t.0))).0
-has_value-step targets f (Def.BitSequence store order) = refl
+has_value-step targets f (Def.BitSequence store order form) = refl
 
 -- a definition's class by its parts is Empty where the definition takes no bytes by them
 pub is_empty-step : (r : List TypeInfo) (f : ℕ → Class) (d : TypeDef) →
@@ -110,7 +110,7 @@ is_empty-step r f (Def.Array (suc n) t) = refl
 is_empty-step r f (Def.Tuple ts) = is_empty-parts f (ids ts)
 is_empty-step r f (Def.Primitive p) = refl
 is_empty-step r f (Def.Compact t) = (compact_class (is_unit (target_of r t.0))).1
-is_empty-step r f (Def.BitSequence store order) = refl
+is_empty-step r f (Def.BitSequence store order form) = refl
 
 -- a class is known by whether it has a value and whether it is Empty
 pub class_is : (c : Class) → c ≡ class_from (has_value c) (is_empty_class c)

@@ -49,7 +49,7 @@ weaker r refs Row c (Def.Sequence t) s h = h
 weaker r refs Row c (Def.Array n t) s h = h
 weaker r refs Row c (Def.Primitive p) s h = h
 weaker r refs Row c (Def.Compact t) s h = h
-weaker r refs Row c (Def.BitSequence store order) s h = h
+weaker r refs Row c (Def.BitSequence store order form) s h = h
 
 -- the definition of a step
 pub definition_of : (r : List TypeInfo) (refs : List ℕ) (rows : Rows) (steps : List TypeStep)
@@ -121,8 +121,8 @@ class_is r refs Row t (Def.Array n u) s e h =
 class_is r refs Row t (Def.Primitive p) s e h =
     rw h (class_by (class_of r t) step.NoValue (step.Primitive p) refl refl)
 class_is r refs Row t (Def.Compact u) s e h = rw h (sym (class_stable r t (Def.Compact u) e))
-class_is r refs Row t (Def.BitSequence store order) s e h =
-    rw h (class_by (class_of r t) step.NoValue step.BitSequence refl refl)
+class_is r refs Row t (Def.BitSequence store order form) s e h =
+    rw h (class_by (class_of r t) step.NoValue (step.BitSequence form) refl refl)
 
 -- where a step is read, there is such a type, and the step reports its class
 pub class_read : (r : List TypeInfo) (t : ℕ) (o : Option TypeStep) (s : TypeStep) → IsStepAt r t o →

@@ -121,7 +121,7 @@ byte_sized r u (Some (Def.Sequence t)) e f = absurd cc
 byte_sized r u (Some (Def.Array n t)) e f = absurd cc
 byte_sized r u (Some (Def.Tuple ts)) e f = absurd cc
 byte_sized r u (Some (Def.Compact t)) e f = absurd cc
-byte_sized r u (Some (Def.BitSequence s x)) e f = absurd cc
+byte_sized r u (Some (Def.BitSequence s x form)) e f = absurd cc
 
 -- a type without a value is not u8
 not_byte : (r : List TypeInfo) (u : ℕ) → class_of r u ≡ class.NoValue →
@@ -253,8 +253,8 @@ step_finished r refs Row t (Def.Compact u) known x e h un =
     let v : has_value (class_of r t) ≡ true =
     ap has_value (class_stable r t (Def.Compact u) e) ∙ compact-value (target_of r u.0) in
     rw v refl
-step_finished r refs Row t (Def.BitSequence store order) known x e h un =
-    rw h (finished_by (class_of r t) step.BitSequence step.NoValue refl)
+step_finished r refs Row t (Def.BitSequence store order form) known x e h un =
+    rw h (finished_by (class_of r t) (step.BitSequence form) step.NoValue refl)
 
 -- when nothing more settles and the steps of the types without a value say so, the steps are the
 -- table of the registry

@@ -149,7 +149,8 @@ settles_step r refs Row (Def.Primitive p) κ ps sized last byte f known x h k e 
     rw h (chosen_by f.class x)
 settles_step r refs Row (Def.Compact u) κ ps sized last byte f known x h k e v draft =
     rw (h.0, v, ← k.target_is u.0 h.1) refl
-settles_step r refs Row (Def.BitSequence store order) κ ps sized last byte f known x h k e v draft =
+settles_step r refs Row (Def.BitSequence store order form) κ ps sized last byte f known x h k e v
+    draft =
     rw h (chosen_by f.class x)
 
 -- the step of a compact without a target stays what it was
@@ -168,7 +169,7 @@ bad_step r refs Row (Def.Array zero u) ps known x h none draft = elim h [
 bad_step r refs Row (Def.Array (suc n) u) ps known x h none draft = absurd (let no = h.0 in cc)
 bad_step r refs Row (Def.Primitive p) ps known x h none draft = refl
 bad_step r refs Row (Def.Compact u) ps known x h none draft = rw (draft, none u.0 h.1) refl
-bad_step r refs Row (Def.BitSequence store order) ps known x h none draft = refl
+bad_step r refs Row (Def.BitSequence store order form) ps known x h none draft = refl
 
 -- ---- an element settles
 
@@ -244,7 +245,7 @@ tells_step r refs Row (Def.Array (suc n) u) ps v c now byte known x h one e b dr
 tells_step r refs Row (Def.Primitive p) ps v c now byte known x h one e b draft = absurd cc
 tells_step r refs Row (Def.Compact u) ps v c now byte known x h one e b draft =
     absurd (let no = h.0 in cc)
-tells_step r refs Row (Def.BitSequence store order) ps v c now byte known x h one e b draft =
+tells_step r refs Row (Def.BitSequence store order form) ps v c now byte known x h one e b draft =
     absurd cc
 
 -- ---- u8 by its step
@@ -298,5 +299,5 @@ byte_so_far r refs Row t (Def.Compact u) known x e h = go (has_value (class_of r
   go : (b : Bool) → is_byte_step (cond b (step.Compact (target_of r u.0)) x) ≡ false
   go true = refl
   go false = rw h refl
-byte_so_far r refs Row t (Def.BitSequence store order) known x e h =
+byte_so_far r refs Row t (Def.BitSequence store order form) known x e h =
     by_not_byte (class_of r t) x x (rw h refl) (rw h refl)

@@ -65,7 +65,7 @@ class_step targets below (Def.Array (suc n) t) = below t.0
 class_step targets below (Def.Tuple ts) = class_of_parts below (ids ts)
 class_step targets below (Def.Primitive p) = class.Sized
 class_step targets below (Def.Compact t) = class_of_compact (targets t.0)
-class_step targets below (Def.BitSequence store order) = class.Sized
+class_step targets below (Def.BitSequence store order form) = class.Sized
 
 -- the table has one entry for each type, the type's class
 abbrev pub ReportsClasses : List TypeInfo → List Class → Type 0

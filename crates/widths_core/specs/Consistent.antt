@@ -85,7 +85,7 @@ so_far r c known (Def.Array n u) x = by_class c x (array_step (is_byte (shape r 
 so_far r c known (Def.Tuple ts) x = by_class c x x
 so_far r c known (Def.Primitive p) x = by_class c x x
 so_far r c known (Def.Compact u) x = if has_value c then step.Compact (target_of r u.0) else x
-so_far r c known (Def.BitSequence store order) x = by_class c x x
+so_far r c known (Def.BitSequence store order form) x = by_class c x x
 
 -- the step of type t, whose definition is d, follows from what has settled so far
 abbrev pub IsStepSoFar : List TypeInfo → List ℕ → Progress → ℕ → TypeDef → Type 0

@@ -10,6 +10,7 @@ pub mod Tables
 pub mod Rows
 pub mod Steps
 pub mod Rules
+pub mod RunBytes
 pub mod Linking
 pub mod Completing
 pub mod Progress

@@ -89,7 +89,7 @@ rules_of t (Def.Array n u) = array_rules t n (u.0 ∷ [])
 rules_of t (Def.Tuple ts) = rule t (kind_of_parts (length ts)) (ids ts) ∷ []
 rules_of t (Def.Primitive p) = rule t (kind.Fixed (found_of_primitive p)) [] ∷ []
 rules_of t (Def.Compact u) = rule t kind.Compact (u.0 ∷ []) ∷ []
-rules_of t (Def.BitSequence store order) = rule t (kind.Fixed found_sized) [] ∷ []
+rules_of t (Def.BitSequence store order form) = rule t (kind.Fixed found_sized) [] ∷ []
 
 -- the rules of types from position t on
 abbrev pub rules_from : ℕ → List TypeInfo → List Rule

@@ -64,7 +64,7 @@ IsDraft refs Row (Def.Sequence t) s = s ≡ step.Sequence t.0
 IsDraft refs Row (Def.Array n t) s = s ≡ step.Array n t.0
 IsDraft refs Row (Def.Primitive p) s = s ≡ step.Primitive p
 IsDraft refs Row (Def.Compact t) s = s ≡ step.Compact None
-IsDraft refs Row (Def.BitSequence store order) s = s ≡ step.BitSequence
+IsDraft refs Row (Def.BitSequence store order form) s = s ≡ (step.BitSequence form)
 
 -- the step of each type is as it is before any type has settled
 pub record AreDrafts (r : List TypeInfo) (refs : List ℕ) (rows : Rows)
@@ -111,7 +111,8 @@ IsStep r refs Row c (Def.Array n t) s =
     s ≡ by_class c step.NoValue (array_step (is_byte (shape r t.0)) n t.0)
 IsStep r refs Row c (Def.Primitive p) s = s ≡ by_class c step.NoValue (step.Primitive p)
 IsStep r refs Row c (Def.Compact t) s = s ≡ step.Compact (target_of r t.0)
-IsStep r refs Row c (Def.BitSequence store order) s = s ≡ by_class c step.NoValue step.BitSequence
+IsStep r refs Row c (Def.BitSequence store order form) s =
+    s ≡ by_class c step.NoValue (step.BitSequence form)
 
 -- refs are the references of the registry, and the steps and rows refer to them
 pub record IsTable (r : List TypeInfo) (refs : List ℕ) (rows : Rows)
@@ -147,7 +148,7 @@ class_of_step (step.ByteArray n) = class.Sized
 class_of_step (step.Sequence t) = class.Sized
 class_of_step step.Bytes = class.Sized
 class_of_step step.Count = class.Sized
-class_of_step step.BitSequence = class.Sized
+class_of_step (step.BitSequence form) = class.Sized
 
 -- the target of a compact with this step
 abbrev pub compact_of_step : TypeStep → Option Target
@@ -163,7 +164,7 @@ compact_of_step (step.ByteArray n) = None
 compact_of_step (step.Sequence t) = None
 compact_of_step step.Bytes = None
 compact_of_step step.Count = None
-compact_of_step step.BitSequence = None
+compact_of_step (step.BitSequence form) = None
 
 -- where the row of a variant with this step is
 abbrev pub row_of_step : TypeStep → Option Parts
@@ -179,4 +180,4 @@ row_of_step (step.ByteArray n) = None
 row_of_step (step.Sequence t) = None
 row_of_step step.Bytes = None
 row_of_step step.Count = None
-row_of_step step.BitSequence = None
+row_of_step (step.BitSequence form) = None

@@ -356,7 +356,10 @@ fn link_definition(
                 TypeStep::Primitive(primitive),
             )
         }
-        Definition::BitSequence => link_none(graph, counters, owner, SIZED, TypeStep::BitSequence),
+        Definition::BitSequence(form) => {
+            let step = TypeStep::BitSequence(form);
+            link_none(graph, counters, owner, SIZED, step)
+        }
     }
 }
 

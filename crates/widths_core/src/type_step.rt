@@ -6,7 +6,7 @@ ghost use Rattle.widths_core.specs.Steps.{class_of_step, compact_of_step, row_of
 
 use crate::class::Class;
 use scale_core::Target;
-use types_core::Primitive;
+use types_core::{BitForm, Primitive};
 
 /// The position of parts in the list of all references of a registry.
 #[derive(Clone, Copy)]
@@ -50,8 +50,8 @@ pub enum TypeStep {
     Bytes,
     /// As a length alone, because the elements take no bytes.
     Count,
-    /// As bits.
-    BitSequence,
+    /// As bits of this form; without a form, not at all.
+    BitSequence(Option<BitForm>),
 }
 
 /// An arm of a variant: its position among the arms, and the position of its field types among the

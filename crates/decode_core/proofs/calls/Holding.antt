@@ -103,6 +103,8 @@ run_alone : (f : Form) (k : RunKind) (c : List ℕ) → HasForm f (layout.plain 
 run_alone (form.Primitive p) k c h some s = kind_alone (kind_of p) k c h s
 run_alone form.Bytes k c h some s =
     rw (same_run k kind.Bytes h) (run_length_short kind.Bytes c tt s)
+run_alone (form.Bits f) k c h some s =
+    rw (same_run k (kind.Bits f) h) (run_length_short (kind.Bits f) c tt s)
 run_alone (form.ByteArray n) k c h some s = absurd some
 run_alone form.Empty k c h some s = absurd some
 run_alone (form.Compact m) k c h some s = absurd cc
@@ -117,6 +119,7 @@ nothing_past : (k : RunKind) → past_length (run_length_at k []) ≡ 0
 nothing_past kind.Text = ap past_length (run_length_short kind.Text [] tt tt)
 nothing_past kind.Bytes = ap past_length (run_length_short kind.Bytes [] tt tt)
 nothing_past (kind.ByteArray n) = refl
+nothing_past (kind.Bits f) = ap past_length (run_length_short (kind.Bits f) [] tt tt)
 
 -- what is carried is not even a run's length
 carried_past : (b : Built) (c : List ℕ) (k : RunKind) → IsCarry b c →

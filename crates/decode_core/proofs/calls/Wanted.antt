@@ -3,7 +3,10 @@ use Rattle.std.proofs.Common.{◌≡◌, ℕ, suc, ◌<◌, ◌≤◌, List, [],
 use Rattle.std.proofs.Common.{Some, None, Ok, Err, refl, sym, ap, subst, ◌∙◌, append_assoc}
 use Rattle.std.proofs.Common.{append-nil, arith, inl, inr, length-append}
 use Rattle.std.specs.Prelude.{◌⊎◌}
-use Rattle.std.proofs.lemmas.Bool.{lt-ltb}
+use Rattle.std.proofs.Math.Seq.{take-append_seam}
+use Rattle.widths_core.specs.RunBytes.{run_bytes}
+use Rattle.value_core.specs.Built.{IsClean}
+use Rattle.machine_core.proofs.steps.OpenRuns.{body_missing, clean_front}
 use Rattle.std.proofs.lemmas.List.{length-take}
 use Rattle.scale_core.specs.Read.{Read, place}
 use Rattle.scale_core.specs.declared.fault.Reason.{Reason}
@@ -33,7 +36,8 @@ use Rattle.outcome_core.proofs.Fed.{fault_value, whole_reported}
 use Rattle.machine_core.proofs.steps.LengthAdding.{run_cut}
 use Rattle.outcome_core.proofs.Owns.{own_extends}
 use Rattle.machine_core.proofs.steps.Refusing.{remain_next}
-use Rattle.outcome_core.proofs.Shortest.{reason_reports, refusal_reports}
+use Rattle.outcome_core.proofs.ShortestCompacts.{reason_reports}
+use Rattle.outcome_core.proofs.Shortest.{refusal_reports}
 use Rattle.machine_core.proofs.steps.MachineTurn.{added_leads, at_next}
 
 -- ---- fewer bytes than spell a node, or begin a run, are too few
@@ -54,25 +58,34 @@ node_short bytes x (Err e) read' h is some = elim (refusal_reports e.0) [
 
 -- a run with fewer bytes after its length than it is to have is cut
 run_few : (k : RunKind) (held rest : List ℕ) (n : ℕ) → run_length_at k held ≡ Ok (n, rest) →
-    length rest < n → own_at (layout.plain (layout.run k)) held ≡ Err (truncated, [])
+    length rest < run_bytes k n → IsClean k n rest →
+    own_at (layout.plain (layout.run k)) held ≡ Err (truncated, [])
 unfolding own_at layout_at run_at
-run_few k held rest n h few = rw (h, lt-ltb (length rest) n few) refl
+run_few k held rest n h few clean = rw (h, body_missing k n rest few clean) refl
 
 -- a run that further bytes, one at least, do not go past is cut without them
 run_begun : (k : RunKind) (held bytes came : List ℕ) (n : ℕ) (read read' : Read Reason ℕ) →
     run_length_at k held ≡ read → Extends scale.Truncated bytes read read' →
-    read' ≡ Ok (n, came) → 1 ≤ length bytes → length came ≤ n → (left : List ℕ)
-    × (own_at (layout.plain (layout.run k)) held ≡ Err (truncated, left))
-run_begun k held bytes came n (Ok y) read' at h is some few =
+    read' ≡ Ok (n, came) → 1 ≤ length bytes → length came ≤ run_bytes k n → IsClean k n came →
+    (left : List ℕ) × (own_at (layout.plain (layout.run k)) held ≡ Err (truncated, left))
+run_begun k held bytes came n (Ok y) read' at h is some few clean =
     let both : ◌≡◌ {A = Read Reason ℕ} (Ok (y.0, y.1 ++ bytes)) (Ok (n, came)) = sym h ∙ is in
     let pair : (y.0, y.1 ++ bytes) ≡ (n, came) = done_is (y.0, y.1 ++ bytes) (n, came) both in
     let same : y.0 ≡ n = ap (λ (p : ℕ × List ℕ). p.0) pair in
     let parts : y.1 ++ bytes ≡ came = ap (λ (p : ℕ × List ℕ). p.1) pair in (
       [],
       run_few k held y.1 y.0 at
-          (omega (arith, same, ap length parts, length-append y.1 bytes, some, few)),
+          (omega (
+            arith,
+            ap (run_bytes k) same,
+            ap length parts,
+            length-append y.1 bytes,
+            some,
+            few,
+          )) (rw same (subst (IsClean k n) (take-append_seam y.1 bytes)
+          (clean_front k n (y.1 ++ bytes) (length y.1) (rw parts clean)))),
     )
-run_begun k held bytes came n (Err e) read' at h is some few = elim (reason_reports e.0) [
+run_begun k held bytes came n (Err e) read' at h is some few clean = elim (reason_reports e.0) [
   | inl cut ↦ (e.1, run_cut k held scale.Truncated e.1 (at ∙ ap (λ r. Err (r, e.1)) cut))
   | inr other ↦ let both = sym (h other) ∙ is in absurd cc
 ]
@@ -177,7 +190,7 @@ goes_by j b n h (inl keeps) = node_by j b n h h.wants.bytes refl keeps
 goes_by j b n h (inr keeps) =
     let bytes = h.wants.bytes in
     let short = run_begun keeps.0 (held_of h.s) bytes keeps.3.1 keeps.3.0 _ _ refl
-    (length_extends keeps.0 (held_of h.s) bytes) keeps.3.2 keeps.2 keeps.3.3 in
+    (length_extends keeps.0 (held_of h.s) bytes) keeps.3.2 keeps.2 keeps.3.3 keeps.3.4 in
     let laid = ap (λ (f : Layout). own_at f (held_of h.s)) keeps.1 ∙ short.1 in
     inl (cut_goes_on j b short.0 n h laid, some_left h.rest bytes h.wants.later h.wants.is keeps.2)
 

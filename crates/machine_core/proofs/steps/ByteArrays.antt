@@ -1,4 +1,5 @@
--- Turns on an array of u8 of which no byte came.
+-- Turns on an array of u8: read whole, or of which no byte came.
+use Rattle.grammar_core.specs.Runs.{run_leaf}
 use Rattle.std.proofs.Common.{◌≡◌, ℕ, ◌≤◌, List, [], ◌++◌, take, None}
 use Rattle.std.proofs.Common.{sym, ap, subst, ◌∙◌, arith, inl, inr}
 use Rattle.std.specs.Prelude.{◌⊎◌}
@@ -15,11 +16,27 @@ use Rattle.machine_core.specs.Turned.{KeepsNode, KeepsRun, PieceReports, StepRep
 use Rattle.machine_core.specs.Turned.{WantsBytes}
 use Rattle.machine_core.specs.Turned.{Turned}
 use Rattle.machine_core.proofs.steps.NodeAdding.{next_run}
-use Rattle.machine_core.proofs.steps.OpenRuns.{byte_array_length, run_missing}
+use Rattle.std.proofs.Common.{length, refl}
+use Rattle.grammar_core.specs.Preorder as head
+use Rattle.machine_core.proofs.steps.OpenRuns.{run_missing, run_whole}
+use Rattle.machine_core.specs.Running.{IsLength}
 use Rattle.machine_core.proofs.steps.TurnReports.{carry_none}
 use Rattle.machine_core.proofs.steps.TurnEffects.{held_closed}
 use Rattle.std.specs.Prelude.{Err, Ok}
 use Rattle.machine_core.specs.declared.turned.Stopped.TheVariants as stop
+
+-- an array of u8 has its length by its type
+pub byte_array_length : (n : ℕ) → IsLength (kind.ByteArray n) n
+byte_array_length n = record { own = λ has. absurd has; read = refl }
+
+-- it is read from all its bytes
+pub byte_array_read : (b : Built) (n : ℕ) (own : List ℕ) →
+    next_of b.walk ≡ next.Wants (form.ByteArray n) → length own ≡ n →
+    own_at (next_layout b) own
+    ≡ Ok ((head.leaf (run_leaf (kind.ByteArray n) (n, own)), None), [])
+byte_array_read b n own h all =
+    ap (λ (f : Layout). own_at f own) (next_run b (kind.ByteArray n) h)
+    ∙ run_whole (kind.ByteArray n) n own (byte_array_length n) all refl tt
 
 -- what is known of a decoder to which the array is next, by its fields
 pub record AtArray (b : Built) (c : List ℕ) (n : ℕ) : Type 0 where
@@ -61,7 +78,7 @@ array_waits b c n carried wants closed some =
       left = [];
       short = ap (own_at (next_layout b)) held
           ∙ ap (λ (f : Layout). own_at f []) (next_run b (kind.ByteArray n) wants)
-          ∙ run_missing (kind.ByteArray n) n [] (byte_array_length n) (omega (arith, some));
+          ∙ run_missing (kind.ByteArray n) n [] (byte_array_length n) (omega (arith, some)) tt;
     }
 
 -- to open it changes nothing of what the bytes say
@@ -109,5 +126,6 @@ array_piece b c n new piece (Err stop.OutOfMemory) a h = record {
       k.3.1,
       ap (λ (l : List ℕ). run_length_at k.0 (l ++ h.bytes)) (none_held b c n a) ∙ k.3.2,
       k.3.3,
+      k.3.4,
     ),
   )

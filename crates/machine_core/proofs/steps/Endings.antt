@@ -3,6 +3,7 @@ use Rattle.std.proofs.Common.{◌≡◌, ℕ, ◌+◌, ◌-◌, ◌≤◌, Bool,
 use Rattle.std.proofs.Common.{Option, Some, None, Ok, refl, sym, ap, ◌∙◌, arith}
 use Rattle.std.specs.Prelude.{is_none, nat_lt, if◌then◌else◌}
 use Rattle.scale_core.specs.declared.compact.Target.{Target}
+use Rattle.types_core.specs.declared.bits.BitForm.{BitForm}
 use Rattle.types_core.specs.declared.definition.TypeDef.{TypeDef}
 use Rattle.types_core.specs.declared.definition.TypeDef.TheVariants as Def
 use Rattle.types_core.specs.declared.type_info.TypeInfo.{TypeInfo}
@@ -10,8 +11,8 @@ use Rattle.graph_core.specs.Types.{shape}
 use Rattle.widths_core.specs.Layouts.{is_byte}
 use Rattle.widths_core.specs.Targets.{target_of}
 use Rattle.widths_core.specs.Classes.{is_finite, is_empty}
-use Rattle.grammar_core.specs.Forms.{form_of, form_of_shape, array_form, sequence_form}
-use Rattle.grammar_core.specs.Forms.{compact_form}
+use Rattle.grammar_core.specs.Forms.{bits_form, form_of, form_of_shape, array_form, sequence_form}
+use Rattle.grammar_core.specs.Forms.{bits_form, compact_form}
 use Rattle.grammar_core.specs.Parts.{Part, first_of}
 use Rattle.grammar_core.specs.declared.form.Form.{Form}
 use Rattle.grammar_core.specs.declared.form.Form.TheVariants as form
@@ -53,7 +54,10 @@ shape_goes_on r (Some (Def.Compact t)) e = by (target_of r t.0) e where
   by : (m : Option Target) → compact_form m ≡ next.Finished → ⊥
   by (Some m) h = absurd cc
   by None h = absurd cc
-shape_goes_on r (Some (Def.BitSequence store order)) e = absurd cc
+shape_goes_on r (Some (Def.BitSequence store order bits)) e = by bits e where
+  by : (o : Option BitForm) → bits_form o ≡ next.Finished → ⊥
+  by (Some b) h = absurd cc
+  by None h = absurd cc
 
 -- no type has the form that nothing is next
 form_goes_on : (r : List TypeInfo) (t : ℕ) → form_of r t ≡ next.Finished → ⊥

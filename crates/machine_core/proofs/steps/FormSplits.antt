@@ -20,6 +20,7 @@ pub length_compact : (k : RunKind) (own : List ℕ) → HasBytes (run_form k) �
 length_compact kind.Text own h = refl
 length_compact kind.Bytes own h = refl
 length_compact (kind.ByteArray n) own h = absurd h
+length_compact (kind.Bits f) own h = refl
 
 -- the forms that are read by their bytes have bytes of their own
 pub have_bytes : (f : BytesForm) → HasBytes (form_of_bytes f)

@@ -148,6 +148,7 @@ length_settled : (k : RunKind) (own : List ℕ) → HasBytes (run_form k) → Ar
 length_settled kind.Text own s a = settled_at target.U32 own u32_is a.0 a.1 a.2 a.3
 length_settled kind.Bytes own s a = settled_at target.U32 own u32_is a.0 a.1 a.2 a.3
 length_settled (kind.ByteArray n) own s a = absurd s
+length_settled (kind.Bits f) own s a = settled_at target.U32 own u32_is a.0 a.1 a.2 a.3
 
 -- what is read of just its own bytes leaves none of them
 settled_ok : (read : Read Reason ℕ) (n : ℕ) (rest : List ℕ) → IsDefinite read →

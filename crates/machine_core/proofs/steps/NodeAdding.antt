@@ -46,6 +46,7 @@ needs_these b form.Arm own h s n k = (s, k)
 needs_these b (form.Array n') own h s n k = (s, k)
 needs_these b (form.ByteArray n') own h s n k = absurd n
 needs_these b form.Bytes own h s n k = n
+needs_these b (form.Bits f) own h s n k = absurd n
 needs_these b form.Sequence own h s n k = (s, k)
 needs_these b form.Count own h s n k = (s, k)
 

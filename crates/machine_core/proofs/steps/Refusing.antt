@@ -45,7 +45,7 @@ use Rattle.outcome_core.proofs.Owns.{own_extends}
 use Rattle.machine_core.proofs.steps.MachineTurn.{AtNext, at_next, top_of, first_is, open_parts}
 use Rattle.machine_core.proofs.steps.MachineTurn.{state_is}
 use Rattle.outcome_core.proofs.Targets.{wanted_target}
-use Rattle.outcome_core.proofs.Shortest.{short_bytes}
+use Rattle.outcome_core.proofs.ShortestCompacts.{short_bytes}
 use Rattle.outcome_core.proofs.NotCut.{not_cut}
 use Rattle.machine_core.proofs.steps.Whole.{u32_is}
 
@@ -108,6 +108,7 @@ pub run_length_short : (k : RunKind) (b : List ℕ) → HasBytes (run_form k) �
 run_length_short kind.Text b s h = compact_short target.U32 b u32_is h
 run_length_short kind.Bytes b s h = compact_short target.U32 b u32_is h
 run_length_short (kind.ByteArray n) b s h = absurd s
+run_length_short (kind.Bits f) b s h = compact_short target.U32 b u32_is h
 
 -- a run with fewer bytes than its length has is cut
 pub run_short : (k : RunKind) (b : List ℕ) → HasBytes (run_form k) →
@@ -162,6 +163,8 @@ own_short b form.Arm x h s k = arms_short (next_layout b) (next_has b form.Arm h
 own_short b (form.Array n) x h s k = absurd s
 own_short b (form.ByteArray n) x h s k = absurd s
 own_short b form.Bytes x h s k = rw (next_has b form.Bytes h) (run_short kind.Bytes x s k)
+own_short b (form.Bits f) x h s k =
+    rw (next_has b (form.Bits f) h) (run_short (kind.Bits f) x s k)
 own_short b form.Sequence x h s k = sequence_short (next_layout b) (next_has b form.Sequence h) x k
 own_short b form.Count x h s k = count_short (next_layout b) (next_has b form.Count h) x k
 

@@ -1,10 +1,11 @@
 -- A run of bytes that ends in the turn that takes its last bytes.
-use Rattle.std.proofs.Common.{◌≡◌, ℕ, ◌+◌, ◌-◌, ◌≤◌, List, [], ◌++◌, length, take, Err, sym, ap}
+use Rattle.std.proofs.Common.{None, ◌≡◌, ℕ, ◌+◌, ◌-◌, ◌≤◌, List, [], ◌++◌, length, take, Err, sym}
+use Rattle.std.proofs.Common.{ap}
 use Rattle.std.proofs.Common.{subst, ◌∙◌, append_assoc, arith, refl, inl, inr, length-append}
 use Rattle.std.proofs.lemmas.List.{append-nil}
 use Rattle.std.proofs.Math.Seq.{take-append_seam}
 use Rattle.grammar_core.specs.Runs.{run_front}
-use Rattle.value_core.specs.Built.{Built, with_piece}
+use Rattle.value_core.specs.Built.{Built, unused_in, with_piece}
 use Rattle.outcome_core.specs.Decided.{Decided}
 use Rattle.outcome_core.specs.Machine.{remain}
 use Rattle.outcome_core.specs.Reported.{reported}
@@ -70,9 +71,10 @@ rest_refused b c rest later held at len reason held_is h =
 -- to take the last bytes of an open run and to end it is one turn
 pub rest_reports : (b mid : Built) (c : List ℕ) (new : Running) (rest later : List ℕ)
     (result : Turned) → IsRunOpen b c (length rest) → 1 ≤ length rest →
-    mid ≡ with_piece b rest → EndReports (of_fields mid c) new (length rest) result →
+    unused_in b.run rest ≡ None → mid ≡ with_piece b rest →
+    EndReports (of_fields mid c) new (length rest) result →
     StepReports (of_fields b c) new (rest ++ later) result
-rest_reports b mid c new rest later result n some is h =
+rest_reports b mid c new rest later result n some clean is h =
     by result (subst (λ (s : Built). EndReports (of_fields s c) new (length rest) result) is h)
   where
     held : held_of (of_fields (with_piece b rest) c) ≡ held_of (of_fields b c) ++ rest
@@ -94,6 +96,7 @@ rest_reports b mid c new rest later result n some is h =
     by (Err stop.OutOfMemory) h =
         piece_wants b c (length rest) (rest ++ later) (length rest) n (omega arith)
         (omega (arith, length-append rest later)) some
+        (ap (unused_in b.run) (take-append_seam rest later) ∙ clean)
 
 -- to end a run of which no byte came in this turn is a turn too
 pub end_reports : (old new : Running) (piece : List ℕ) (result : Turned) →

@@ -64,6 +64,7 @@ need_small (form.Primitive p) first h = kind_need_small (kind_of p) first
 need_small (form.Compact m) first h = compact_need_small m first
 need_small form.Sequence first h = compact_need_small target.U32 first
 need_small form.Bytes first h = compact_need_small target.U32 first
+need_small (form.Bits f) first h = compact_need_small target.U32 first
 need_small form.Count first h = compact_need_small target.U32 first
 need_small form.Empty first h = omega arith
 need_small form.Fields first h = omega arith

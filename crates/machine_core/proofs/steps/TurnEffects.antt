@@ -1,4 +1,5 @@
 -- What a turn does to a decoder in progress: it holds bytes, or adds a node.
+use Rattle.value_core.specs.Built.{IsClean}
 use Rattle.std.proofs.Common.{◌≡◌, ℕ, suc, ◌≤◌, List, [], ◌∷◌, ◌++◌, length, Option, Some, None, Ok}
 use Rattle.std.proofs.Common.{Err, refl, sym, ap, subst, ◌∙◌, arith, inl, inr, length-append}
 use Rattle.std.proofs.lemmas.List.{append-nil}
@@ -7,6 +8,7 @@ use Rattle.scale_core.specs.Read.{Read}
 use Rattle.scale_core.specs.declared.fault.Reason.{Reason}
 use Rattle.scale_core.proofs.Results.{Takes}
 use Rattle.widths_core.specs.declared.run_kind.RunKind.{RunKind}
+use Rattle.widths_core.specs.declared.run_kind.RunKind.TheVariants as kind
 use Rattle.grammar_core.specs.Runs.{IsRunLength, run_form, run_front, run_length_at}
 use Rattle.grammar_core.proofs.Runs.{length_is, length_takes}
 use Rattle.value_core.specs.Built.{Built, Pieces, next_entry, with_run_opened}
@@ -111,6 +113,13 @@ taken_same f b new c d own (inr h) =
     (record { built = s; carry = d })) (sym h.4)
     (record { types = refl; limit = refl; ty = refl })
 
+-- no byte has an unused bit
+clean_none : (k : RunKind) (n : ℕ) → IsClean k n []
+clean_none kind.Text n = tt
+clean_none kind.Bytes n = tt
+clean_none (kind.ByteArray m) n = tt
+clean_none (kind.Bits f) n = refl
+
 -- with a run opened that is next, a decoder is in progress
 pub opened_running : (b : Built) (c : List ℕ) (k : RunKind) (n : ℕ) → IsRunning b c →
     next_of b.walk ≡ next.Wants (run_form k) → IsLength k n →
@@ -120,7 +129,7 @@ opened_running b c k n h wants len = record {
   deep = h.deep;
   settled = h.settled;
   carried = tt;
-  run_next = (wants, refl, len);
+  run_next = (wants, refl, len, clean_none k n);
 }
 
 -- after the next node's bytes were taken, a decoder is in progress with nothing carried

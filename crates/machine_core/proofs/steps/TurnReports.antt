@@ -267,9 +267,11 @@ no_run_form : {X : Type 0} (f : BytesForm) (k : RunKind) → HasParts f →
 no_run_form bytes.Arm kind.Text has e = absurd cc
 no_run_form bytes.Arm kind.Bytes has e = absurd cc
 no_run_form bytes.Arm (kind.ByteArray n) has e = absurd cc
+no_run_form bytes.Arm (kind.Bits b) has e = absurd cc
 no_run_form bytes.Sequence kind.Text has e = absurd cc
 no_run_form bytes.Sequence kind.Bytes has e = absurd cc
 no_run_form bytes.Sequence (kind.ByteArray n) has e = absurd cc
+no_run_form bytes.Sequence (kind.Bits b) has e = absurd cc
 no_run_form _ k has e = absurd has
 
 -- so none is open after one of these was taken

@@ -30,7 +30,7 @@ use Rattle.form_core.specs.Needs.{compact_need, kind_need, AreOwn, HasBytes, IsN
 use Rattle.grammar_core.specs.Reading.{leaf_own}
 use Rattle.outcome_core.specs.Reported.{arm_own, arms_own, length_own, own_at}
 use Rattle.outcome_core.proofs.ByFault.{IsJudged, Judges, judges}
-use Rattle.outcome_core.proofs.Shortest.{whole_bytes}
+use Rattle.outcome_core.proofs.ShortestCompacts.{whole_bytes}
 
 -- nothing is left, or the refusal does not wait for more bytes
 abbrev pub IsTakenWhole : {X : Type 0} → Read Refusal X → Type 0
@@ -134,6 +134,7 @@ abbrev pub NeedsThese : Form → List ℕ → Type 0
 NeedsThese (form.Primitive p) b = IsNoText (kind_of p) × AreOwn (form.Primitive p) b
 NeedsThese (form.Compact m) b = (m ≢ target.Unit) × AreOwn (form.Compact m) b
 NeedsThese form.Bytes b = ⊥
+NeedsThese (form.Bits f) b = ⊥
 NeedsThese f b = HasBytes f × AreOwn f b
 
 -- the bytes that a primitive kind needs are enough to read or refuse it, if it is no text
@@ -164,6 +165,7 @@ form_whole form.Arm lay b h k = rw h.1 (arms_whole h.0 b k.1.3)
 form_whole (form.Array n) lay b h k = absurd k.0
 form_whole (form.ByteArray n) lay b h k = absurd k.0
 form_whole form.Bytes lay b h k = absurd k
+form_whole (form.Bits f) lay b h k = absurd k
 form_whole form.Sequence lay b h k =
     rw h.1 (length_whole h.0 (compact_at target.U32 b)
     (settled_at target.U32 b u32_is k.1.0 k.1.1 k.1.2 k.1.3))

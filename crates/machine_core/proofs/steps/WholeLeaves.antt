@@ -48,6 +48,7 @@ fits_spelled : (k : RunKind) (n : ℕ) (c : List ℕ) → IsRunLength k n c → 
 fits_spelled kind.Text n c h = tt
 fits_spelled kind.Bytes n c h = tt
 fits_spelled (kind.ByteArray len) n c h = h.0
+fits_spelled (kind.Bits f) n c h = tt
 
 -- a run that stands whole on the front of a piece is a value of the next type
 run_is_next : (k : RunKind) (w : Walked) (piece : List ℕ) (l : Leaf) (count : ℕ) →
@@ -58,9 +59,9 @@ run_is_next k w piece l count wants are h =
     let own : AreBytes (take count piece) =
     front_bytes (take count piece) (drop count piece)
     (subst AreBytes (sym (take-append-drop count piece)) are) in
-    let bytes : AreBytes h.bytes = rest_bytes s.0 h.bytes (subst AreBytes s.3 own) in
+    let bytes : AreBytes h.run.1 = rest_bytes s.0 h.run.1 (subst AreBytes s.4 own) in
     subst (IsNextLeaf w) (sym h.head)
-    (run_next w k h.bytes wants s.2 bytes h.few (fits_spelled k (length h.bytes) s.0 s.1))
+    (run_next w k h.run.0 h.run.1 wants s.3 bytes s.2 h.few (fits_spelled k h.run.0 s.0 s.1))
 
 -- its bytes are read as its node
 whole_read : (k : RunKind) (b : Built) (piece : List ℕ) (l : Leaf) (count : ℕ) →
@@ -69,8 +70,8 @@ whole_read : (k : RunKind) (b : Built) (piece : List ℕ) (l : Leaf) (count : �
 unfolding own_at layout_at
 whole_read k b piece l count wants h =
     let own = take count piece in
-    let read : run_at k own ≡ Ok (h.bytes, []) = ap (run_at k) (sym (append-nil own))
-    ∙ run_again k h.bytes own [] (run_spelled k piece l count h) in
+    let read : run_at k own ≡ Ok (h.run, []) = ap (run_at k) (sym (append-nil own))
+    ∙ run_again k h.run.0 h.run.1 own [] (run_spelled k piece l count h) in
     ap (λ (f : Layout). own_at f own) (next_run b k wants)
     ∙ ap (λ r. leaf_own (as_leaf (leaf_of (run_leaf k) r))) read
     ∙ ap (λ x. Ok ((x, None), [])) (sym h.head)

@@ -17,7 +17,7 @@ use Rattle.machine_core.specs.Turned.{IsSound, StepReports, WholeReports, WholeT
 use Rattle.machine_core.specs.declared.turned.Tried.TheVariants as tried
 use Rattle.machine_core.proofs.steps.LengthAdding.{fields_read}
 use Rattle.machine_core.proofs.steps.Moving.{moves_none, turn_goes_on, turn_nearer, wants_goes_on}
-use Rattle.machine_core.proofs.steps.OpenRuns.{byte_array_read}
+use Rattle.machine_core.proofs.steps.ByteArrays.{byte_array_read}
 use Rattle.machine_core.proofs.steps.TurnReports.{bare_reports, bare_running}
 use Rattle.machine_core.proofs.steps.TurnReports.{carry_none}
 use Rattle.machine_core.proofs.steps.TurnReports.{of_fields}

@@ -22,7 +22,7 @@ use Rattle.json_core.proofs.Children.{children_below, jsons}
 use Rattle.json_core.proofs.Counts.{fields_count, arm_count, child_listed, child_below, child_data}
 use Rattle.json_core.proofs.Ordered.{are_named, positions_are_named}
 use Rattle.json_core.proofs.Ordered.{unnamed_json_is, in_order_json_is, sorted_json_is}
-use Rattle.json_core.proofs.Reported.{reported, text_is, bytes_are, found_is, fields_are}
+use Rattle.json_core.proofs.Reported.{bits_are, reported, text_is, bytes_are, found_is, fields_are}
 use Rattle.json_core.proofs.Reported.{no_fields_json, arm_there, arm_is}
 use Rattle.json_core.proofs.Turns.{in_order_turn, item_turn, array_whole, name_read, sorted_turn}
 use Rattle.json_core.proofs.Turns.{object_whole, slice_within, next_named}
@@ -393,3 +393,12 @@ pub write_node-returns-in-Count : goal.write_node-returns-in-Count
 write_node-returns-in-Count g t c =
     rw (reported c.args.node.now _ c.in-Count.ensures.value c.in-Count.ensures.same)
     c.write_count.ensures
+
+pub write_node-returns-in-Bits : goal.write_node-returns-in-Bits
+write_node-returns-in-Bits g t c =
+    rw (
+      bits_are c.args.node.now c.in-Bits.count c.words.result c.unwrap-in-Bits.result
+          c.words.ensures c.unwrap-in-Bits.ensures
+          (reported c.args.node.now _ c.in-Bits.ensures.value c.in-Bits.ensures.same),
+      ← c.bit_form.ensures,
+    ) c.write_bits.ensures

@@ -1,6 +1,7 @@
-use Rattle.std.proofs.Common.{rules, ◌≡◌, FitsSigned, ap, subst, ◌∙◌, ℕ, [], ◌∷◌, arith}
+use Rattle.std.proofs.Common.{rules, ◌≡◌, FitsSigned, ap, subst, ◌∙◌, ℕ, ◌-◌, ◌*◌, [], ◌∷◌, arith}
 use Rattle.node_core.proofs.SpelledNodes.{one_front, compact_front, char_front, starts_as}
-use Rattle.node_core.proofs.SpelledNodes.{starts_bool, starts_bytes, starts_char, starts_text}
+use Rattle.node_core.proofs.SpelledNodes.{starts_bits, starts_bool, starts_bytes, starts_char}
+use Rattle.node_core.proofs.SpelledNodes.{starts_text}
 use Rattle.node_core.proofs.SpelledNodes.{starts_unsigned, starts_signed, starts_compact}
 use Rattle.node_core.proofs.SpelledNodes.{starts_count, starts_arm, starts_list}
 use Rattle.std.specs.Int.{w128, cast_unsigned}
@@ -88,3 +89,12 @@ returns-in-Count-clause-bytes c =
     (compact_front _ c.args.out.now c.from-in-Count.result c.put_compact-in-Count.result
     c.in-Count.count c.put_compact-in-Count.ensures.len c.put_compact-in-Count.ensures.bytes
     c.from-in-Count.ensures))
+
+pub returns-in-Bits-clause-bytes : goal.returns-in-Bits-clause-bytes
+returns-in-Bits-clause-bytes c =
+    starts_as _ _ _ _ _ _ c.in-Bits.is
+    (starts_bits _ (shape c.args.checked.now.types c.args.node.now.ty.0) c.args.pool.now
+    c.args.node.now.children c.in-Bits.unused c.in-Bits.len c.in-Bits.start
+    (compact_front _ c.args.out.now c.from-in-Bits.result c.put_compact-in-Bits.result
+    (8 * c.in-Bits.len - c.in-Bits.unused) c.put_compact-in-Bits.ensures.len
+    c.put_compact-in-Bits.ensures.bytes (c.from-in-Bits.ensures ∙ c.bit_count.ensures)))

@@ -13,7 +13,8 @@ returns-in-Err-add-clause-value g c =
     stopped _ _ c.records.at c.in-Err-add.fault (opened _ _ c.in-Ok.builder c.in-Ok.ensures).0
     (elim (failed _ _ _ _ c.in-Err-add.fault c.in-Err-add.ensures) [
       | inl f ↦ inl (ap (ended (length c.args.records.now))
-          (replay_stop c.args.pool.now c.args.records.now _ c.records.builder c.records.at _
+          (replay_stop c.args.checked.now.types c.args.pool.now c.args.records.now _
+          c.records.builder c.records.at _
           c.in-Err-add.fault c.records.invariant c.records-test.true f))
       | inr f ↦ inr f
     ])
@@ -21,13 +22,14 @@ returns-in-Err-add-clause-value g c =
 pub records-preserved : goal.records-preserved
 records-preserved g c =
     let done = added _ _ _ _ c.add.result c.add.ensures c.in_default.not-Err in
-    replay_next c.args.pool.now c.args.records.now _ c.records.builder c.records.at _
+    replay_next c.args.checked.now.types c.args.pool.now c.args.records.now _ c.records.builder
+    c.records.at _
     c.records.invariant c.records-test.true done.0 ∙ ap Ok (sym done.1)
 
 pub returns-in-Ok-finish-clause-value : goal.returns-in-Ok-finish-clause-value
 returns-in-Ok-finish-clause-value g c =
     let all = take_all c.records.at c.args.records.now (omega arith) in
-    let after : replay c.args.pool.now c.args.records.now
+    let after : replay c.args.checked.now.types c.args.pool.now c.args.records.now
     (start_with c.args.checked.now.types c.args.root.0 c.args.depth) ≡ Ok c.records.builder =
     rw all at c.records.invariant in
     rw after (whole _ (length c.args.records.now) c.records.builder c.in-Ok-finish.value
@@ -36,13 +38,13 @@ returns-in-Ok-finish-clause-value g c =
 pub returns-in-Ok-finish-clause-tree : goal.returns-in-Ok-finish-clause-tree
 returns-in-Ok-finish-clause-tree g c =
     let all = take_all c.records.at c.args.records.now (omega arith) in
-    tree_is c.args.pool.now c.args.records.now c.args.checked.now.types c.args.root.0 c.args.depth
+    tree_is c.args.checked.now.types c.args.pool.now c.args.records.now c.args.root.0 c.args.depth
     c.records.builder c.in-Ok-finish.value (rw all at c.records.invariant) c.in-Ok-finish.ensures
 
 pub returns-clause-value : goal.returns-clause-value
 returns-clause-value g c =
     let all = take_all c.records.at c.args.records.now (omega arith) in
-    let after : replay c.args.pool.now c.args.records.now
+    let after : replay c.args.checked.now.types c.args.pool.now c.args.records.now
     (start_with c.args.checked.now.types c.args.root.0 c.args.depth) ≡ Ok c.records.builder =
     rw all at c.records.invariant in
     rw after (missing _ (length c.args.records.now) c.records.builder _

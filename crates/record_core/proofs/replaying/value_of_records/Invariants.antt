@@ -4,5 +4,6 @@ use Rattle.record_core.proofs.replaying.value_of_records.Given as goal
 
 abbrev pub invariant-records : goal.invariant-records
 invariant-records g l =
-    replay l.pool (take l.at l.records) (start_with l.checked.types l.fn.root.0 l.depth)
+    replay l.checked.types l.pool (take l.at l.records)
+    (start_with l.checked.types l.fn.root.0 l.depth)
     ≡ Ok l.builder

@@ -9,7 +9,7 @@ use Rattle.machine_core.specs.Turned.{EndReports, EndsTurns, WantsMemory}
 use Rattle.machine_core.specs.declared.reason.DecodeReason.TheVariants as reason
 use Rattle.machine_core.specs.declared.turned.Stopped.TheVariants as stop
 use Rattle.machine_core.proofs.steps.TurnReports.{of_fields}
-use Rattle.machine_core.proofs.steps.OpenRuns.{bad_reports, bad_within, end_wants}
+use Rattle.machine_core.proofs.steps.OpenRuns.{bad_all, bad_reports, bad_within, end_wants}
 use Rattle.machine_core.proofs.steps.OpenRuns.{end_whole, ended_running, ended_reports, open_of}
 use Rattle.machine_core.proofs.partial.Partial.run_end.Goals as goal
 use Rattle.std.specs.Prelude.{Ok}
@@ -55,6 +55,7 @@ returns-in-Some-clause-reports g c =
       arith,
       end.lacks,
       ap (λ (o : Option Pieces). length (pieces_bytes o)) end.open_is,
+      bad_all b k end valid bad,
       subst (λ (s : Running). c.args.count ≤ length (pieces_bytes s.built.run))
           (sym c.self.view_is) c.requires.last,
     ) in

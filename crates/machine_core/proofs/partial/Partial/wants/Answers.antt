@@ -19,5 +19,5 @@ returns-then-is_run_open-clause-wants g c = λ yes.
     let k = c.self.inside.carry in
     let missing = c.run_missing.result in
     subst WantsBytes c.self.view_is (run_waits b k missing
-    (is_open b k missing c.self.invariant.run_next c.run_missing.ensures)
+    (is_open b k missing c.self.invariant.run_next c.run_missing.ensures.lacks)
     (omega (arith, ltb-true 0 missing yes)))

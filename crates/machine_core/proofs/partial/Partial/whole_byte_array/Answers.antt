@@ -1,4 +1,4 @@
-use Rattle.std.proofs.Common.{◌≡◌, arith, drop, length, length-take, subst, sym, take}
+use Rattle.std.proofs.Common.{refl, ◌≡◌, arith, drop, length, length-take, subst, sym, take}
 use Rattle.std.proofs.lemmas.List.{take-append-drop}
 use Rattle.scale_core.specs.Number.{AreBytes}
 use Rattle.scale_core.proofs.Numbers.{front_bytes}
@@ -7,7 +7,7 @@ use Rattle.widths_core.specs.declared.run_kind.RunKind.TheVariants as kind
 use Rattle.grammar_core.specs.declared.form.Form.TheVariants as form
 use Rattle.value_core.proofs.NextLeaf.{run_next}
 use Rattle.machine_core.specs.Turned.{WholeReports}
-use Rattle.machine_core.proofs.steps.OpenRuns.{byte_array_read}
+use Rattle.machine_core.proofs.steps.ByteArrays.{byte_array_read}
 use Rattle.machine_core.proofs.steps.TurnReports.{carry_none}
 use Rattle.machine_core.proofs.partial.Partial.whole_byte_array.Goals as goal
 
@@ -31,10 +31,10 @@ whole_leaf-requires-clause-next g c =
     let own = take len piece in
     let all : length own ≡ len =
     omega (arith, length-take len piece, c.if-piece-count.false) in
-    run_next c.args.self.now.built.walk (kind.ByteArray len) own c.requires.next tt
+    run_next c.args.self.now.built.walk (kind.ByteArray len) len own c.requires.next tt
     (front_bytes own (drop len piece) (subst AreBytes (sym (take-append-drop len piece))
-    (are_bytes piece (λ i. omega (arith, c.type_inv.piece i)))))
-    (omega (arith, all, c.ranges.len.fits)) all
+    (are_bytes piece (λ i. omega (arith, c.type_inv.piece i))))) all
+    (omega (arith, c.ranges.len.fits)) refl
 
 pub whole_leaf-requires-clause-empty : goal.whole_leaf-requires-clause-empty
 whole_leaf-requires-clause-empty g c =

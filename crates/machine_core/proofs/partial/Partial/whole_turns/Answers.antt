@@ -4,7 +4,6 @@ use Rattle.machine_core.specs.declared.turned.Tried.{Tried}
 use Rattle.machine_core.proofs.steps.Calls.{call_nearer, call_on, stays_ready, turns_after}
 use Rattle.machine_core.proofs.steps.Calls.{left_so_far, turns_end, whole_added}
 use Rattle.machine_core.proofs.partial.Partial.whole_turns.Goals.{else-is_empty}
-use Rattle.machine_core.proofs.partial.Partial.whole_turns.Goals.{}
 use Rattle.machine_core.proofs.partial.Partial.whole_turns.Goals.{then-is_empty+then-not-is_run_open+in_default}
 use Rattle.machine_core.proofs.partial.Partial.whole_turns.Goals as goal
 

@@ -17,8 +17,9 @@ add_around-requires-clause-leaf g c =
     let array = c.args.array.now in
     let b = c.args.self.now in
     run_next (opened (advanced b.walk) (length b.entries) (each (c.args.part.0 ∷ [])))
-    (kind.ByteArray (length array)) array (c.requires.wraps.array (length b.entries)) tt
-    (are_bytes array (λ i. omega (arith, c.type_inv.array i))) c.requires.wraps.few refl
+    (kind.ByteArray (length array)) (length array) array
+    (c.requires.wraps.array (length b.entries)) tt
+    (are_bytes array (λ i. omega (arith, c.type_inv.array i))) refl c.requires.wraps.few refl
 
 pub add_around-requires-clause-fits : goal.add_around-requires-clause-fits
 add_around-requires-clause-fits g c = c.requires.wraps.few

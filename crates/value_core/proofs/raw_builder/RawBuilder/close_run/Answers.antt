@@ -1,6 +1,7 @@
 use Rattle.std.proofs.Common.{rules, ◌≡◌, ◌∙◌, ◌+◌, ◌^◌, ◌<◌, length, arith, None, IfSome, sym}
 use Rattle.std.proofs.Common.{subst}
-use Rattle.value_core.specs.Built.{Built}
+use Rattle.widths_core.specs.RunBytes.{run_bytes}
+use Rattle.value_core.specs.Built.{Built, IsCleanRun}
 use Rattle.value_core.specs.Building.{IsOpenRun}
 use Rattle.value_core.specs.Refusals.{IsRunComplete, bad_text}
 use Rattle.node_core.specs.Shown.{all_kept}
@@ -11,30 +12,31 @@ use Rattle.value_core.proofs.raw_builder.RawBuilder.close_run.Goals as goal
 
 pub close_complete-requires : goal.close_complete-requires
 close_complete-requires g c =
-    let whole = subst (λ (b : Built). IfSome b.run (λ x. IsRunComplete b)) (sym c.self.view_is)
-    c.requires.whole in
-    let valid = subst (λ (b : Built). bad_text b.run ≡ None) (sym c.self.view_is)
-    c.requires.valid in
+    let done = subst (λ (b : Built). IfSome b.run (λ x. IsRunComplete b) × (bad_text b.run ≡ None)
+    × IsCleanRun b.run) (sym c.self.view_is) (c.requires.whole, c.requires.valid, c.requires.clean)
+    in
     let b = run_ended c.self.inside.root.0 c.self.inside.walk c.self.inside.pool.list.items
     c.self.inside.nodes.list.items c.self.inside.text_len c.self.inside.open_run c.in-Some.open
-    c.ty.result c.self.invariant.0 c.self.invariant.1 c.in-Some.is whole valid c.ty.ensures in (
+    c.ty.result c.self.invariant.0 c.self.invariant.1 c.in-Some.is done.0 done.1 done.2 c.ty.ensures
+    in (
       c.self.inside.root.0,
       c.self.inside.pool.list.items,
-      c.self.inside.text_len + c.in-Some.open.len,
+      c.self.inside.text_len + run_bytes c.in-Some.open.kind c.in-Some.open.len,
       rw (c.advance.ensures, c.in_ok-append_node.ensures.ok, c.content.ensures) b.0,
     )
 
 pub invariant_of-self-2 : goal.invariant_of-self-2
 invariant_of-self-2 g c =
-    let whole = subst (λ (b : Built). IfSome b.run (λ x. IsRunComplete b)) (sym c.self.view_is)
-    c.requires.whole in
-    let valid = subst (λ (b : Built). bad_text b.run ≡ None) (sym c.self.view_is)
-    c.requires.valid in
+    let done = subst (λ (b : Built). IfSome b.run (λ x. IsRunComplete b) × (bad_text b.run ≡ None)
+    × IsCleanRun b.run) (sym c.self.view_is) (c.requires.whole, c.requires.valid, c.requires.clean)
+    in
     let b = run_ended c.self.inside.root.0 c.self.inside.walk c.self.inside.pool.list.items
     c.self.inside.nodes.list.items c.self.inside.text_len c.self.inside.open_run c.in-Some.open
-    c.ty.result c.self.invariant.0 c.self.invariant.1 c.in-Some.is whole valid c.ty.ensures in (
+    c.ty.result c.self.invariant.0 c.self.invariant.1 c.in-Some.is done.0 done.1 done.2 c.ty.ensures
+    in (
       c.close_complete.ensures.settles.builds _ _ _
           (rw (
+            c.bytes.ensures.exact,
             c.advance.ensures,
             c.in_ok-append_node.ensures.ok,
             c.append_node.ensures.pool,
@@ -55,11 +57,11 @@ overflow_add-self g c =
     let place = subst (IsOpenRun c.self.inside.walk c.self.inside.pool.list.items
     (all_kept c.self.inside.nodes.list.items)) c.in-Some.is c.self.invariant.1 in
     let small : length c.self.inside.pool.list.items < 2 ^ 63 = search rules in
-    let fits : c.self.inside.text_len + c.in-Some.open.len < 2 ^ 64 =
+    let fits : c.self.inside.text_len + c.bytes.result < 2 ^ 64 =
     omega (
       arith,
       small,
-      place.spelled,
+      c.bytes.ensures.bound,
       c.self.invariant.0.texts,
       c.self.invariant.0.fits,
       texts_kept c.self.inside.pool.list.items c.self.inside.nodes.list.items,
