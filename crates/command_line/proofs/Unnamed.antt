@@ -32,8 +32,8 @@ pub none_of_types : (rows : List Row) →
 none_of_types rows refute (jobs.Types m) file None fits is =
     refute file (ap (λ sub. first_of (codes "FILE") (rows_in sub)) is.1 ∙ is.2.file_is)
 none_of_types rows refute (jobs.Types m) file (Some value) fits is = is
-none_of_types rows refute (jobs.Decode p m h d) file None fits is = is
-none_of_types rows refute (jobs.Decode p m h d) file (Some value) fits is =
+none_of_types rows refute (jobs.Decode p m b h d) file None fits is = is
+none_of_types rows refute (jobs.Decode p m b h d) file (Some value) fits is =
     not_both (ap name_in is.1)
 
 -- what a job of `decode` would have from the rows: its two numbers and its two files
@@ -51,8 +51,8 @@ pub none_of_decode : (rows : List Row) →
     NamesNone (Some (codes "decode", rows))
 none_of_decode rows refute (jobs.Types m) file None fits is = not_both (ap name_in (sym is.1))
 none_of_decode rows refute (jobs.Types m) file (Some value) fits is = is
-none_of_decode rows refute (jobs.Decode p m h d) file None fits is = is
-none_of_decode rows refute (jobs.Decode p m h d) file (Some value) fits is =
+none_of_decode rows refute (jobs.Decode p m b h d) file None fits is = is
+none_of_decode rows refute (jobs.Decode p m b h d) file (Some value) fits is =
     let r : is.0 ≡ rows = ap rows_in (sym is.1) in
     refute p d file value (record {
       position_fits = fits.0;

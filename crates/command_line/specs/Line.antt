@@ -21,6 +21,9 @@ abbrev pub metadata_flag : Rule
 metadata_flag = record (new_rule (codes "metadata"))
     { long = Some (codes "metadata"); action = Some SetTrue }
 
+abbrev pub bits : Rule
+bits = record (new_rule (codes "bits")) { long = Some (codes "bits"); action = Some SetTrue }
+
 abbrev pub hex : Rule
 hex = record (new_rule (codes "hex")) { long = Some (codes "hex"); action = Some SetTrue }
 
@@ -31,9 +34,9 @@ abbrev pub types : App
 types = with_rule (with_rule (new_app (codes "types")) file) metadata_flag
 
 abbrev pub decode : App
-decode = with_rule (with_rule
+decode = with_rule (with_rule (with_rule
     (with_rule (with_rule (with_rule (with_rule (new_app (codes "decode")) file) id) value_file)
-    metadata_flag) hex) depth
+    metadata_flag) bits) hex) depth
 
 -- the command, which requires a subcommand
 abbrev pub with_required_subcommand : App → App
@@ -65,12 +68,13 @@ pub record IsTypes (from_metadata : Bool) (file_name : Text) (rows : List Row) :
   pub file_is : first_of (codes "FILE") rows ≡ Some file_name
 
 -- what the matches of `decode` say
-pub record IsDecode (position : ℕ) (from_metadata from_hex : Bool) (greatest_depth : ℕ)
-    (file_name value_name : Text) (rows : List Row) : Type 0 where
+pub record IsDecode (position : ℕ) (from_metadata with_bits from_hex : Bool)
+    (greatest_depth : ℕ) (file_name value_name : Text) (rows : List Row) : Type 0 where
   pub position_is : Spells (first_of (codes "ID") rows) position
   pub metadata_is : IsFlag (one_of (codes "metadata") rows) from_metadata
   pub file_is : first_of (codes "FILE") rows ≡ Some file_name
   pub value_is : first_of (codes "VALUEFILE") rows ≡ Some value_name
+  pub bits_are : IsFlag (one_of (codes "bits") rows) with_bits
   pub hex_is : IsFlag (one_of (codes "hex") rows) from_hex
   pub depth_is : SpellsDepth (first_of (codes "depth") rows) greatest_depth
 
@@ -79,15 +83,16 @@ abbrev pub IsJob : Job → Text → Option Text → Option (Text × List Row) �
 IsJob (jobs.Types from_metadata) file_name None sub =
     (rows : List Row) × (sub ≡ Some (codes "types", rows)) × IsTypes from_metadata file_name rows
 IsJob (jobs.Types from_metadata) file_name (Some value_name) sub = ⊥
-IsJob (jobs.Decode position from_metadata from_hex greatest_depth) file_name None sub = ⊥
-IsJob (jobs.Decode position from_metadata from_hex greatest_depth) file_name (Some value_name) sub =
+IsJob (jobs.Decode position from_metadata with_bits from_hex greatest_depth) file_name None sub = ⊥
+IsJob (jobs.Decode position from_metadata with_bits from_hex greatest_depth) file_name
+    (Some value_name) sub =
     (rows : List Row) × (sub ≡ Some (codes "decode", rows))
-    × IsDecode position from_metadata from_hex greatest_depth file_name value_name rows
+    × IsDecode position from_metadata with_bits from_hex greatest_depth file_name value_name rows
 
 -- the job's numbers, if it has any, are within their ranges
 abbrev pub FitsJob : Job → Type 0
 FitsJob (jobs.Types from_metadata) = Unit {0}
-FitsJob (jobs.Decode position from_metadata from_hex greatest_depth) = (position < 2 ^ 32)
+FitsJob (jobs.Decode position from_metadata with_bits from_hex greatest_depth) = (position < 2 ^ 32)
     × (greatest_depth ≤ 1024)
 
 -- a subcommand's name and matches give no job
@@ -98,4 +103,5 @@ NamesNone sub = (job : Job) (file_name : Text) (value_name : Option Text) → Fi
 -- the decoder supports the depth limit
 abbrev pub IsServed : Job → Type 0
 IsServed (jobs.Types from_metadata) = Unit {0}
-IsServed (jobs.Decode position from_metadata from_hex greatest_depth) = greatest_depth ≤ 1024
+IsServed (jobs.Decode position from_metadata with_bits from_hex greatest_depth) =
+    greatest_depth ≤ 1024

@@ -4,9 +4,8 @@ ghost use Rattle.std.specs.Prelude.{◌≡◌, IfOk, IfErr, map, true, false};
 ghost use Rattle.clap.specs.Words.{FailsBy, app_of, fault_of, found_of, rows_of, rule_of};
 ghost use Rattle.clap.specs.Words.{matches_of, subcommand_of, subcommand_rows_of, takes, kind_of};
 ghost use Rattle.clap.specs.declared.Command.TheViews.{out-Command};
-ghost use Rattle.command_line.specs.Line.{line, types, decode, file, id, value_file, metadata_flag};
-ghost use Rattle.command_line.specs.Line.{hex};
-ghost use Rattle.command_line.specs.Line.{depth};
+ghost use Rattle.command_line.specs.Line.{bits, decode, depth, file, hex, id, line};
+ghost use Rattle.command_line.specs.Line.{metadata_flag, types, value_file};
 
 use clap::error::ErrorKind;
 use clap::{Arg, ArgAction, ArgMatches, Command, Error};
@@ -68,6 +67,16 @@ fn metadata_arg<'a>(alloc: Global) -> Arg<'a>
         .help("FILE is metadata of version 14 or 15; what follows its registry is ignored")
 }
 
+fn bits_arg<'a>(alloc: Global) -> Arg<'a>
+    ensures rule { rule_of result ≡ bits }
+    ensures local { result.global ≡ false }
+{
+    Arg::new(alloc, "bits")
+        .long("bits")
+        .action(ArgAction::SetTrue)
+        .help("Bit sequences are read whose words are u8, u16, u32 or u64; unused bits must be 0")
+}
+
 fn hex_arg<'a>(alloc: Global) -> Arg<'a>
     ensures rule { rule_of result ≡ hex }
     ensures local { result.global ≡ false }
@@ -110,6 +119,7 @@ fn decode_command<'a>(alloc: Global) -> Result<Command<'a>, AllocError>
         .arg(id_arg(alloc))?
         .arg(value_file_arg(alloc))?
         .arg(metadata_arg(alloc))?
+        .arg(bits_arg(alloc))?
         .arg(hex_arg(alloc))?
         .arg(depth_arg(alloc))?;
     Ok(command)

@@ -96,12 +96,14 @@ fn decode_job<'a>(matches: &ArgMatches<'a>) -> Option<(Job, &'a str, &'a str)>
     let id = number_of(matches.get_str("ID")?)?;
     let depth = depth_of(matches.get_str("depth"))?;
     let metadata = matches.get_flag("metadata");
+    let bits = matches.get_flag("bits");
     let hex = matches.get_flag("hex");
     let file = matches.get_str("FILE")?;
     let value_file = matches.get_str("VALUEFILE")?;
     let job = Job::Decode {
         id,
         metadata,
+        bits,
         hex,
         depth,
     };

@@ -14,6 +14,8 @@ pub enum Job {
         id: u32,
         /// Whether the registry follows the prefix of metadata.
         metadata: bool,
+        /// Whether bit sequences are read.
+        bits: bool,
         /// Whether the value's file holds hexadecimal digits rather than the bytes.
         hex: bool,
         /// The greatest depth of a part of the value, at most 1024. The value itself has depth 0.

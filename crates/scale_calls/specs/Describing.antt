@@ -49,7 +49,7 @@ part_of (definition.Array len element) i = None
 part_of (definition.Tuple members) i = option_map member_part (slice_get members i)
 part_of (definition.Primitive p) i = None
 part_of (definition.Compact target) i = None
-part_of (definition.BitSequence store order) i = None
+part_of (definition.BitSequence store order form) i = None
 
 -- the arm at a position of a definition
 abbrev pub arm_of : TypeDef → ℕ → Option Arm
@@ -60,7 +60,7 @@ arm_of (definition.Array len element) i = None
 arm_of (definition.Tuple members) i = None
 arm_of (definition.Primitive p) i = None
 arm_of (definition.Compact target) i = None
-arm_of (definition.BitSequence store order) i = None
+arm_of (definition.BitSequence store order form) i = None
 
 -- `Result::map`
 abbrev pub result_map : {X Y E : Type 0} → (X → Y) → Result X E → Result Y E

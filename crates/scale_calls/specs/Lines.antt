@@ -44,7 +44,7 @@ kind_name (definition.Array len element) = codes "array"
 kind_name (definition.Tuple members) = codes "tuple"
 kind_name (definition.Primitive p) = primitive_name p
 kind_name (definition.Compact target) = codes "compact"
-kind_name (definition.BitSequence store order) = codes "bitsequence"
+kind_name (definition.BitSequence store order form) = codes "bitsequence"
 
 -- the segments, joined by `::`
 abbrev pub joined_segments : List (List ℕ) → List ℕ

@@ -1,6 +1,7 @@
 -- The registry that bytes hold, and why they hold none.
 use Rattle.std.specs.Prelude.{◌≡◌, ◌<◌, ℕ, List, [], ◌∷◌, length, drop, Option, Some, None, Ok, Err}
-use Rattle.std.specs.Prelude.{Bool, true, false, option_map, option_and_then}
+use Rattle.std.specs.Prelude.{Bool, true, false, option_map, option_and_then, if◌then◌else◌}
+use Rattle.types_core.specs.Bits.{with_bits}
 use Rattle.scale_core.specs.Read.{Read, place}
 use Rattle.registry_core.specs.Answers.{FaultAnswers}
 use Rattle.registry_core.specs.Reading.{registry_at, metadata_at}
@@ -9,6 +10,7 @@ use Rattle.types_core.specs.declared.type_info.TypeInfo.{TypeInfo}
 use Rattle.registry_core.specs.declared.version.Version.{Version}
 use Rattle.graph_core.specs.References.{first_fault}
 use Rattle.scale_calls.specs.declared.refusal.RegistryRefusal.{RegistryRefusal}
+use Rattle.scale_calls.specs.declared.registry.OpenOptions.{OpenOptions}
 use Rattle.scale_calls.specs.declared.refusal.RegistryRefusal.TheVariants as refusal
 
 -- what is read, if nothing follows it
@@ -24,9 +26,16 @@ in_front (Err e) = None
 
 -- the types of a registry's file: metadata, read only up to the end of its types, or a registry
 -- alone
-abbrev pub types_of : Bool → List ℕ → Option (List TypeInfo)
-types_of true bytes = option_map (λ m. m.0) (in_front (metadata_at bytes))
-types_of false bytes = alone (registry_at bytes)
+abbrev pub file_types : Bool → List ℕ → Option (List TypeInfo)
+file_types true bytes = option_map (λ m. m.0) (in_front (metadata_at bytes))
+file_types false bytes = alone (registry_at bytes)
+
+abbrev pub types_by : Bool → List TypeInfo → List TypeInfo
+types_by bits types = if bits then with_bits types else types
+
+-- the types of a registry's file, with bits allowed or without
+abbrev pub types_of : OpenOptions → List ℕ → Option (List TypeInfo)
+types_of options bytes = option_map (types_by options.bits) (file_types options.metadata bytes)
 
 -- the version of a registry's file, if it is metadata
 abbrev pub file_version : Bool → List ℕ → Option Version
@@ -48,9 +57,9 @@ unless_fault None types = Some types
 unless_fault (Some fault) types = None
 
 -- the types of a registry's file, if every reference is a position
-unfoldable pub checked_of : Bool → List ℕ → Option (List TypeInfo)
-checked_of metadata bytes =
-    option_and_then (λ types. unless_fault (first_fault types) types) (types_of metadata bytes)
+unfoldable pub checked_of : OpenOptions → List ℕ → Option (List TypeInfo)
+checked_of options bytes =
+    option_and_then (λ types. unless_fault (first_fault types) types) (types_of options bytes)
 
 -- the first fault of a registry's file
 abbrev pub IsFirstFault : Bool → List ℕ → RegistryFault → Type 0
@@ -58,14 +67,14 @@ IsFirstFault true bytes f = FaultAnswers bytes f (metadata_at bytes)
 IsFirstFault false bytes f = FaultAnswers bytes f (registry_at bytes)
 
 -- why no types are read: the first fault, or bytes after the registry, unless an allocation failed
-abbrev pub RefusesTypes : Bool → List ℕ → RegistryRefusal → Type 0
-RefusesTypes metadata bytes (refusal.Fault f) = (types_of metadata bytes ≡ None)
-    × IsFirstFault metadata bytes f
-RefusesTypes metadata bytes (refusal.TrailingBytes at) = (types_of metadata bytes ≡ None)
-    × (metadata ≡ false) × (at < length bytes)
+abbrev pub RefusesTypes : OpenOptions → List ℕ → RegistryRefusal → Type 0
+RefusesTypes options bytes (refusal.Fault f) = (types_of options bytes ≡ None)
+    × IsFirstFault options.metadata bytes f
+RefusesTypes options bytes (refusal.TrailingBytes at) = (types_of options bytes ≡ None)
+    × (options.metadata ≡ false) × (at < length bytes)
     × ((types : List TypeInfo) × (registry_at bytes ≡ Ok (types, drop at bytes)))
-RefusesTypes metadata bytes (refusal.Check unknown) = ⊥
-RefusesTypes metadata bytes refusal.Memory = Unit {0}
+RefusesTypes options bytes (refusal.Check unknown) = ⊥
+RefusesTypes options bytes refusal.Memory = Unit {0}
 
 -- why types are rejected: the first reference that is no position, unless an allocation failed
 abbrev pub RefusesCheck : List TypeInfo → RegistryRefusal → Type 0
@@ -75,13 +84,13 @@ RefusesCheck types (refusal.Fault f) = ⊥
 RefusesCheck types (refusal.TrailingBytes at) = ⊥
 
 -- why a registry's file is rejected
-abbrev pub RefusesRegistry : Bool → List ℕ → RegistryRefusal → Type 0
-RefusesRegistry metadata bytes (refusal.Fault f) = (checked_of metadata bytes ≡ None)
-    × IsFirstFault metadata bytes f
-RefusesRegistry metadata bytes (refusal.TrailingBytes at) = (checked_of metadata bytes ≡ None)
-    × (metadata ≡ false) × (at < length bytes)
+abbrev pub RefusesRegistry : OpenOptions → List ℕ → RegistryRefusal → Type 0
+RefusesRegistry options bytes (refusal.Fault f) = (checked_of options bytes ≡ None)
+    × IsFirstFault options.metadata bytes f
+RefusesRegistry options bytes (refusal.TrailingBytes at) = (checked_of options bytes ≡ None)
+    × (options.metadata ≡ false) × (at < length bytes)
     × ((types : List TypeInfo) × (registry_at bytes ≡ Ok (types, drop at bytes)))
-RefusesRegistry metadata bytes (refusal.Check unknown) = (checked_of metadata bytes ≡ None)
-    × ((types : List TypeInfo) × (types_of metadata bytes ≡ Some types)
+RefusesRegistry options bytes (refusal.Check unknown) = (checked_of options bytes ≡ None)
+    × ((types : List TypeInfo) × (types_of options bytes ≡ Some types)
     × (first_fault types ≡ Some (unknown.from, unknown.to)))
-RefusesRegistry metadata bytes refusal.Memory = Unit {0}
+RefusesRegistry options bytes refusal.Memory = Unit {0}

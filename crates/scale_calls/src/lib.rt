@@ -13,5 +13,5 @@ pub use describing::{
 };
 pub use lines::{push_type_lines, type_line, version_line};
 pub use refusal::{RegistryRefusal, UnknownReference, ValueRefusal};
-pub use registry::{OpenedRegistry, open_registry};
+pub use registry::{OpenOptions, OpenedRegistry, open_registry};
 pub use value::{read_value, value_text};

@@ -3,12 +3,23 @@
 ghost use Rattle.std.specs.Prelude.{◌≡◌, Some, IfOk, IfErr};
 ghost use Rattle.graph_core.specs.References.{first_fault};
 ghost use Rattle.scale_calls.specs.Opened.{RefusesCheck, RefusesRegistry, RefusesTypes, checked_of};
-ghost use Rattle.scale_calls.specs.Opened.{file_end, file_version, types_of, unless_fault};
+ghost use Rattle.scale_calls.specs.Opened.{file_end, file_types, file_version, types_by};
+ghost use Rattle.scale_calls.specs.Opened.{types_of, unless_fault};
 
 use crate::refusal::RegistryRefusal;
 use registry_core::{Registry, Version, read_metadata, read_registry};
 use std::alloc::Global;
 use widths_core::Checked;
+
+/// How the bytes of a registry are opened.
+#[derive(Clone, Copy, Debug, PartialEq, Eq)]
+pub struct OpenOptions {
+    /// Whether the registry follows the prefix of metadata. What follows it is then not read.
+    pub metadata: bool,
+    /// Whether bit sequences of a known store and order are read
+    /// ([`with_bits`](registry_core::Registry::with_bits)). Values of all others stay rejected.
+    pub bits: bool,
+}
 
 /// A checked registry, and what its bytes were.
 #[derive(Drop)]
@@ -21,19 +32,29 @@ pub struct OpenedRegistry {
     pub end: usize,
 }
 
+/// Allows bits in a registry, if the options say so.
+fn allowed(registry: Registry, options: OpenOptions) -> Registry
+    ensures { result ≡ types_by options.bits registry }
+{
+    if options.bits {
+        return registry.with_bits();
+    }
+    registry
+}
+
 /// Reads the registry that all the bytes spell or, in metadata, the one after the prefix. Returns
 /// it with the metadata's version and where it ends.
 fn registry_of(
     alloc: Global,
-    metadata: bool,
+    options: OpenOptions,
     bytes: &[u8],
 ) -> Result<(Registry, Option<Version>, usize), RegistryRefusal>
-    ensures ok { IfOk result (λ x. types_of metadata bytes.now ≡ Some x.0) }
-    ensures version { IfOk result (λ x. file_version metadata bytes.now ≡ x.1) }
-    ensures end { IfOk result (λ x. file_end metadata bytes.now ≡ Some x.2) }
-    ensures err { IfErr result (RefusesTypes metadata bytes.now) }
+    ensures ok { IfOk result (λ x. file_types options.metadata bytes.now ≡ Some x.0) }
+    ensures version { IfOk result (λ x. file_version options.metadata bytes.now ≡ x.1) }
+    ensures end { IfOk result (λ x. file_end options.metadata bytes.now ≡ Some x.2) }
+    ensures err { IfErr result (RefusesTypes options bytes.now) }
 {
-    if metadata {
+    if options.metadata {
         let (registry, end, version) = read_metadata(alloc, bytes)?;
         return Ok((registry, Some(version), end));
     }
@@ -70,17 +91,17 @@ fn checked(alloc: Global, registry: Registry) -> Result<Checked, RegistryRefusal
 #[tactic(auto, unfolding(crate::specs::Opened::checked_of))]
 pub fn open_registry(
     alloc: Global,
-    metadata: bool,
+    options: OpenOptions,
     bytes: &[u8],
 ) -> Result<OpenedRegistry, RegistryRefusal>
-    ensures ok { IfOk result (λ x. checked_of metadata bytes.now ≡ Some x.checked.types) }
-    ensures version { IfOk result (λ x. file_version metadata bytes.now ≡ x.version) }
-    ensures end { IfOk result (λ x. file_end metadata bytes.now ≡ Some x.end) }
-    ensures err { IfErr result (RefusesRegistry metadata bytes.now) }
+    ensures ok { IfOk result (λ x. checked_of options bytes.now ≡ Some x.checked.types) }
+    ensures version { IfOk result (λ x. file_version options.metadata bytes.now ≡ x.version) }
+    ensures end { IfOk result (λ x. file_end options.metadata bytes.now ≡ Some x.end) }
+    ensures err { IfErr result (RefusesRegistry options bytes.now) }
 {
-    let (registry, version, end) = registry_of(alloc, metadata, bytes)?;
+    let (registry, version, end) = registry_of(alloc, options, bytes)?;
     Ok(OpenedRegistry {
-        checked: checked(alloc, registry)?,
+        checked: checked(alloc, allowed(registry, options))?,
         version,
         end,
     })

@@ -3,57 +3,58 @@ use Rattle.std.proofs.Common.{◌≡◌, ◌++◌, ◌∙◌, ap, ℕ, List, [],
 use Rattle.std.proofs.Common.{inl, inr, refl}
 use Rattle.std.specs.Prelude.{IfSome, ◌⊎◌}
 use Rattle.types_core.specs.declared.type_info.TypeInfo.{TypeInfo}
+use Rattle.scale_calls.specs.declared.registry.OpenOptions.{OpenOptions}
 use Rattle.scale_calls.specs.Opened.{RefusesRegistry}
 use Rattle.scale_calls.specs.declared.refusal.RegistryRefusal.{RegistryRefusal}
 use Rattle.scale_calls.specs.declared.refusal.RegistryRefusal.TheVariants as types
 use Rattle.scale_tool.specs.Answer.{types_with}
 use Rattle.scale_tool.specs.Refused.{IsRejected, refusal_of_registry, status_of}
 use Rattle.scale_tool.specs.Reported.{FaultsDecode, FaultsRegistry, Reports}
-use Rattle.scale_tool.specs.Reported.{Stands, in_metadata, refusal_line}
+use Rattle.scale_tool.specs.Reported.{Stands, options_of, refusal_line}
 use Rattle.scale_tool.specs.Values.{ReportsFile, decoding}
 use Rattle.scale_tool.specs.declared.refusal.Refusal.{Refusal}
 use Rattle.scale_tool.specs.declared.refusal.Refusal.TheVariants as refusal
 
--- a registry's bytes are refused for the same reason with the flag of any job that has it
-same_flag : (known : Option (List ℕ)) (e : RegistryRefusal) (metadata flag : Bool) →
-    flag ≡ metadata → IfSome known (λ b. RefusesRegistry metadata b e) →
-    IfSome known (λ b. RefusesRegistry flag b e)
-same_flag known e metadata flag is h =
-    subst (λ (m : Bool). IfSome known (λ b. RefusesRegistry m b e)) (sym is) h
+-- a registry's bytes are refused for the same reason with the options of any job that has them
+same_options : (known : Option (List ℕ)) (e : RegistryRefusal) (options other : OpenOptions) →
+    other ≡ options → IfSome known (λ b. RefusesRegistry options b e) →
+    IfSome known (λ b. RefusesRegistry other b e)
+same_options known e options other is h =
+    subst (λ (o : OpenOptions). IfSome known (λ b. RefusesRegistry o b e)) (sym is) h
 
 -- a refusal of a registry's bytes says this of any job with the registry
-pub registry_faults : (known : Option (List ℕ)) (metadata : Bool) (e : RegistryRefusal) →
-    IfSome known (λ b. RefusesRegistry metadata b e) →
-    FaultsRegistry metadata known (refusal_of_registry e)
-registry_faults known metadata (types.Fault f) h j v is =
-    same_flag known (types.Fault f) metadata (in_metadata j) is h
-registry_faults known metadata (types.TrailingBytes at) h j v is =
-    same_flag known (types.TrailingBytes at) metadata (in_metadata j) is h
-registry_faults known metadata (types.Check unknown) h j v is =
-    same_flag known (types.Check unknown) metadata (in_metadata j) is h
-registry_faults known metadata types.Memory h j v is = tt
+pub registry_faults : (known : Option (List ℕ)) (options : OpenOptions) (e : RegistryRefusal) →
+    IfSome known (λ b. RefusesRegistry options b e) →
+    FaultsRegistry options known (refusal_of_registry e)
+registry_faults known options (types.Fault f) h j v is =
+    same_options known (types.Fault f) options (options_of j) is h
+registry_faults known options (types.TrailingBytes at) h j v is =
+    same_options known (types.TrailingBytes at) options (options_of j) is h
+registry_faults known options (types.Check unknown) h j v is =
+    same_options known (types.Check unknown) options (options_of j) is h
+registry_faults known options types.Memory h j v is = tt
 
 -- bytes that are refused are those of the file that they were gathered from
-pub gathered_refused : (known : Option (List ℕ)) (metadata : Bool) (old new text : List ℕ)
+pub gathered_refused : (known : Option (List ℕ)) (options : OpenOptions) (old new text : List ℕ)
     (e : RegistryRefusal) → old ≡ [] → IfSome known (λ b. new ≡ old ++ b) → text ≡ new →
-    RefusesRegistry metadata text e → IfSome known (λ b. RefusesRegistry metadata b e)
-gathered_refused None metadata old new text e none all same h = tt
-gathered_refused (Some b) metadata old new text e none all same h =
-    subst (λ (t : List ℕ). RefusesRegistry metadata t e)
+    RefusesRegistry options text e → IfSome known (λ b. RefusesRegistry options b e)
+gathered_refused None options old new text e none all same h = tt
+gathered_refused (Some b) options old new text e none all same h =
+    subst (λ (t : List ℕ). RefusesRegistry options t e)
     (same ∙ all ∙ ap (λ (x : List ℕ). x ++ b) none) h
 
 -- a refusal of a value's file says this of the job
-pub value_faults : (known file : Option (List ℕ)) (metadata hex : Bool) (id depth : ℕ)
-    (found : List TypeInfo) (e : Refusal) →
-    IfSome known (λ b. types_with metadata id b ≡ Some found) →
+pub value_faults : (known file : Option (List ℕ)) (options : OpenOptions) (hex : Bool)
+    (id depth : ℕ) (found : List TypeInfo) (e : Refusal) →
+    IfSome known (λ b. types_with options id b ≡ Some found) →
     ReportsFile hex (decoding id depth found) file e →
-    FaultsDecode metadata hex id depth known file e
-value_faults known file metadata hex id depth found (refusal.Hex f) h r = (found, h, r)
-value_faults known file metadata hex id depth found (refusal.Value f) h r = (found, h, r)
-value_faults known file metadata hex id depth found (refusal.TrailingValue at) h r = (found, h, r)
-value_faults known file metadata hex id depth found refusal.ValueDevice h r = tt
-value_faults known file metadata hex id depth found refusal.Memory h r = tt
-value_faults known file metadata hex id depth found _ h r = absurd r
+    FaultsDecode options hex id depth known file e
+value_faults known file options hex id depth found (refusal.Hex f) h r = (found, h, r)
+value_faults known file options hex id depth found (refusal.Value f) h r = (found, h, r)
+value_faults known file options hex id depth found (refusal.TrailingValue at) h r = (found, h, r)
+value_faults known file options hex id depth found refusal.ValueDevice h r = tt
+value_faults known file options hex id depth found refusal.Memory h r = tt
+value_faults known file options hex id depth found _ h r = absurd r
 
 -- where a refusal is answered and reported, or an allocation failure for its line, one is
 pub reports_refused : (Holds : Refusal → Type 0) (Sent : List ℕ → Type 0) (e : Refusal)

@@ -1,13 +1,14 @@
 -- What the command reports if it writes no text: the line of a refusal, and what that says about
 -- the job's files.
 use Rattle.std.specs.Prelude.{◌≡◌, ◌≤◌, ℕ, List, [], ◌∷◌, ◌++◌, length, Bool, codes, decimal}
-use Rattle.std.specs.Prelude.{Option, Some, IfSome}
+use Rattle.std.specs.Prelude.{Option, Some, IfSome, false}
 use Rattle.types_core.specs.declared.type_info.TypeInfo.{TypeInfo}
 use Rattle.registry_core.specs.Names as registry
 use Rattle.decode_core.specs.Names as decode
 use Rattle.scale_calls.specs.Opened.{RefusesRegistry, checked_of}
 use Rattle.scale_calls.specs.declared.refusal.RegistryRefusal.TheVariants as types
-use Rattle.scale_tool.specs.Answer.{types_with}
+use Rattle.scale_calls.specs.declared.registry.OpenOptions.{OpenOptions}
+use Rattle.scale_tool.specs.Answer.{opened_by, types_with}
 use Rattle.command_line.specs.Explained.{device_line}
 use Rattle.scale_tool.specs.Refused.{status_of}
 use Rattle.scale_tool.specs.Values.{ReportsFile, decoding}
@@ -52,32 +53,32 @@ refusal_line refusal.Memory = codes "scaleview: memory\n"
 
 -- ---- what a refusal says
 
--- whether the job's registry is in metadata
-abbrev pub in_metadata : Job → Bool
-in_metadata (job.Types metadata) = metadata
-in_metadata (job.Decode id metadata hex depth) = metadata
+-- how the job opens its registry
+abbrev pub options_of : Job → OpenOptions
+options_of (job.Types metadata) = opened_by metadata false
+options_of (job.Decode id metadata bits hex depth) = opened_by metadata bits
 
 -- the position is that of the type of the job's value, and the registry has no such position
 abbrev pub LacksType : Job → ℕ → List ℕ → Type 0
 LacksType (job.Types metadata) at registry = ⊥
-LacksType (job.Decode id metadata hex depth) at registry = (at ≡ id) × ((types : List TypeInfo)
-    × (checked_of metadata registry ≡ Some types) × (length types ≤ id))
+LacksType (job.Decode id metadata bits hex depth) at registry = (at ≡ id) × ((types : List TypeInfo)
+    × (checked_of (opened_by metadata bits) registry ≡ Some types) × (length types ≤ id))
 
 -- the registry isn't rejected, and the value's file is, with this refusal
 abbrev pub FaultsValue : Job → Option (List ℕ) → Option (List ℕ) → Refusal → Type 0
 FaultsValue (job.Types metadata) registry value e = ⊥
-FaultsValue (job.Decode id metadata hex depth) registry value e = (types : List TypeInfo)
-    × IfSome registry (λ r. types_with metadata id r ≡ Some types)
+FaultsValue (job.Decode id metadata bits hex depth) registry value e = (types : List TypeInfo)
+    × IfSome registry (λ r. types_with (opened_by metadata bits) id r ≡ Some types)
     × ReportsFile hex (decoding id depth types) value e
 
 -- what a refusal says about the bytes of the registry and the value, if these are known
 abbrev pub Faults : Job → Option (List ℕ) → Option (List ℕ) → Refusal → Type 0
 Faults j r v (refusal.Registry f) =
-    IfSome r (λ b. RefusesRegistry (in_metadata j) b (types.Fault f))
+    IfSome r (λ b. RefusesRegistry (options_of j) b (types.Fault f))
 Faults j r v (refusal.TrailingRegistry at) =
-    IfSome r (λ b. RefusesRegistry (in_metadata j) b (types.TrailingBytes at))
+    IfSome r (λ b. RefusesRegistry (options_of j) b (types.TrailingBytes at))
 Faults j r v (refusal.Check unknown) =
-    IfSome r (λ b. RefusesRegistry (in_metadata j) b (types.Check unknown))
+    IfSome r (λ b. RefusesRegistry (options_of j) b (types.Check unknown))
 Faults j r v (refusal.UnknownType at) = IfSome r (LacksType j at)
 Faults j r v (refusal.Hex f) = FaultsValue j r v (refusal.Hex f)
 Faults j r v (refusal.Value f) = FaultsValue j r v (refusal.Value f)
@@ -88,20 +89,20 @@ Faults j r v refusal.OutputDevice = ⊥
 Faults j r v refusal.Memory = Unit {0}
 
 -- the same for any job with this registry
-abbrev pub FaultsRegistry : Bool → Option (List ℕ) → Refusal → Type 0
-FaultsRegistry metadata registry e = (j : Job) (value : Option (List ℕ)) →
-    in_metadata j ≡ metadata → Faults j registry value e
+abbrev pub FaultsRegistry : OpenOptions → Option (List ℕ) → Refusal → Type 0
+FaultsRegistry options registry e = (j : Job) (value : Option (List ℕ)) →
+    options_of j ≡ options → Faults j registry value e
 
 -- the same for any job with a value of the type at this position
-abbrev pub FaultsType : Bool → ℕ → Option (List ℕ) → Refusal → Type 0
-FaultsType metadata id registry e = (hex : Bool) (depth : ℕ) (value : Option (List ℕ)) →
-    Faults (job.Decode id metadata hex depth) registry value e
+abbrev pub FaultsType : OpenOptions → ℕ → Option (List ℕ) → Refusal → Type 0
+FaultsType options id registry e = (hex : Bool) (depth : ℕ) (value : Option (List ℕ)) →
+    Faults (job.Decode id options.metadata options.bits hex depth) registry value e
 
 -- the same for a job with a value
-abbrev pub FaultsDecode : Bool → Bool → ℕ → ℕ → Option (List ℕ) → Option (List ℕ) → Refusal →
+abbrev pub FaultsDecode : OpenOptions → Bool → ℕ → ℕ → Option (List ℕ) → Option (List ℕ) → Refusal →
     Type 0
-FaultsDecode metadata hex id depth registry value e =
-    Faults (job.Decode id metadata hex depth) registry value e
+FaultsDecode options hex id depth registry value e =
+    Faults (job.Decode id options.metadata options.bits hex depth) registry value e
 
 -- the device of the refusal failed, or the refusal says this about the files
 abbrev pub Stands : Type 0 → Type 0 → Type 0 → (Refusal → Type 0) → Refusal → Type 0

@@ -20,7 +20,7 @@ use crate::registry::{read_types, read_types_with};
 use crate::value::read_value_file;
 use command_line::Job;
 use json_core::json_text;
-use scale_calls::{push_type_lines, version_line};
+use scale_calls::{OpenOptions, push_type_lines, version_line};
 use scale_core::{ReadOnce, Sink, Source, WriteOnce, send};
 use std::alloc::{AllocError, Global};
 use value_core::Value;
@@ -37,21 +37,21 @@ fn line_text(alloc: Global, value: &Value<'_, Global>) -> Result<String, AllocEr
 /// Returns the line of the metadata's version, if there is one, and the lines of the types.
 fn types_text<R: ReadOnce>(
     alloc: Global,
-    metadata: bool,
+    options: OpenOptions,
     registry: &mut Source<R>,
 ) -> Result<String, Refusal>
     ensures ok { IfOk result (λ text. IfSome (R.remaining registry.old.device)
-        (λ r. types_text metadata r ≡ Some (string_bytes text))) }
+        (λ r. types_text options r ≡ Some (string_bytes text))) }
     ensures refused { IfErr result (λ e. IsRejected e →
-        IfSome (R.remaining registry.old.device) (λ r. types_text metadata r ≡ None)) }
-    ensures faults { IfErr result (FaultsRegistry metadata (R.remaining registry.old.device)) }
+        IfSome (R.remaining registry.old.device) (λ r. types_text options r ≡ None)) }
+    ensures faults { IfErr result (FaultsRegistry options (R.remaining registry.old.device)) }
     ensures device { IfErr result (λ e. IsDevice e → e ≡ Refusal.RegistryDevice) }
     ensures reported { IsErrOf result Refusal.RegistryDevice →
         FailsReading R.reads registry.old registry.new }
     ensures quiet { IsErrOf result Refusal.RegistryDevice
         ⊎ (registry.new.failed ≡ registry.old.failed) }
 {
-    let opened = read_types(alloc, metadata, registry)?;
+    let opened = read_types(alloc, options, registry)?;
     let mut text = version_line(alloc, opened.version)?;
     push_type_lines(alloc, &mut text, &opened.checked)?;
     Ok(text)
@@ -60,7 +60,7 @@ fn types_text<R: ReadOnce>(
 /// Returns the line of a value.
 fn value_line<R: ReadOnce, V: ReadOnce>(
     alloc: Global,
-    metadata: bool,
+    options: OpenOptions,
     hex: bool,
     id: u32,
     depth: u16,
@@ -70,16 +70,16 @@ fn value_line<R: ReadOnce, V: ReadOnce>(
     requires { depth ≤ 1024 }
     ensures ok { IfOk result (λ text. IfSome (R.remaining registry.old.device)
         (λ r. IfSome (V.remaining value.old.device)
-        (λ v. value_line metadata hex id depth r v ≡ Some (string_bytes text)))) }
+        (λ v. value_line options hex id depth r v ≡ Some (string_bytes text)))) }
     ensures refused { IfErr result (λ e. IsRejected e →
         IfSome (R.remaining registry.old.device) (λ r. IfSome (V.remaining value.old.device)
-        (λ v. value_line metadata hex id depth r v ≡ None))) }
-    ensures faults { IfErr result (FaultsDecode metadata hex id depth
+        (λ v. value_line options hex id depth r v ≡ None))) }
+    ensures faults { IfErr result (FaultsDecode options hex id depth
         (R.remaining registry.old.device) (V.remaining value.old.device)) }
     ensures registry_failed { IsErrOf result Refusal.RegistryDevice →
         FailsReading R.reads registry.old registry.new }
     ensures value_failed { IsErrOf result Refusal.ValueDevice → (value.new.failed ≡ true)
-        × StopsValue metadata hex id depth (R.remaining registry.old.device)
+        × StopsValue options hex id depth (R.remaining registry.old.device)
         (FailsAfter V.reads value.old.device value.new.device)
         (V.remaining value.old.device) (V.remaining value.new.device) }
     ensures registry { IsErrOf result Refusal.RegistryDevice
@@ -87,9 +87,9 @@ fn value_line<R: ReadOnce, V: ReadOnce>(
     ensures value { IsErrOf result Refusal.ValueDevice ⊎ (value.new.failed ≡ value.old.failed) }
     ensures read_last { (value.new ≡ value.old) ⊎ ((registry.new.failed ≡ registry.old.failed)
         × IfSome (R.remaining registry.old.device)
-        (λ r. (types : List TypeInfo) × (types_with metadata id r ≡ Some types))) }
+        (λ r. (types : List TypeInfo) × (types_with options id r ≡ Some types))) }
 {
-    let checked = read_types_with(alloc, metadata, id, registry)?;
+    let checked = read_types_with(alloc, options, id, registry)?;
     let value = read_value_file(alloc, &checked, id, depth, hex, value)?;
     Ok(line_text(alloc, &value)?)
 }
@@ -123,13 +123,20 @@ fn answer<R: ReadOnce, V: ReadOnce>(
         × HasJobType job (R.remaining registry.old.device)) }
 {
     match job {
-        Job::Types { metadata } => types_text(alloc, metadata, registry),
+        Job::Types { metadata } => {
+            let bits = false;
+            types_text(alloc, OpenOptions { metadata, bits }, registry)
+        }
         Job::Decode {
             id,
             metadata,
+            bits,
             hex,
             depth,
-        } => value_line(alloc, metadata, hex, id, depth, registry, value),
+        } => {
+            let options = OpenOptions { metadata, bits };
+            value_line(alloc, options, hex, id, depth, registry, value)
+        }
     }
 }
 

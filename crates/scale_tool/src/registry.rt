@@ -11,7 +11,7 @@ ghost use Rattle.scale_tool.specs.Reported.{FaultsRegistry, FaultsType};
 use crate::gathering::{GatherFault, gather_all};
 use crate::refusal::Refusal;
 use registry_core::TypeId;
-use scale_calls::{OpenedRegistry, RegistryRefusal, open_registry};
+use scale_calls::{OpenOptions, OpenedRegistry, RegistryRefusal, open_registry};
 use scale_core::{ReadOnce, Source};
 use std::alloc::Global;
 use widths_core::Checked;
@@ -19,31 +19,31 @@ use widths_core::Checked;
 /// Reads and checks the registry that all the bytes hold.
 fn checked_registry(
     alloc: Global,
-    metadata: bool,
+    options: OpenOptions,
     bytes: &[u8],
 ) -> Result<OpenedRegistry, RegistryRefusal>
-    ensures ok { IfOk result (λ x. checked_of metadata bytes.now ≡ Some x.checked.types) }
-    ensures version { IfOk result (λ x. file_version metadata bytes.now ≡ x.version) }
+    ensures ok { IfOk result (λ x. checked_of options bytes.now ≡ Some x.checked.types) }
+    ensures version { IfOk result (λ x. file_version options.metadata bytes.now ≡ x.version) }
     ensures err { IfErr result (λ e. status_of_registry e ≡ 1 →
-        checked_of metadata bytes.now ≡ None) }
-    ensures refuses { IfErr result (RefusesRegistry metadata bytes.now) }
+        checked_of options bytes.now ≡ None) }
+    ensures refuses { IfErr result (RefusesRegistry options bytes.now) }
 {
-    open_registry(alloc, metadata, bytes)
+    open_registry(alloc, options, bytes)
 }
 
 /// Reads and checks the registry of the source.
 pub(crate) fn read_types<R: ReadOnce>(
     alloc: Global,
-    metadata: bool,
+    options: OpenOptions,
     source: &mut Source<R>,
 ) -> Result<OpenedRegistry, Refusal>
     ensures ok { IfOk result (λ x. IfSome (R.remaining source.old.device)
-        (λ bytes. checked_of metadata bytes ≡ Some x.checked.types)) }
+        (λ bytes. checked_of options bytes ≡ Some x.checked.types)) }
     ensures version { IfOk result (λ x. IfSome (R.remaining source.old.device)
-        (λ bytes. file_version metadata bytes ≡ x.version)) }
+        (λ bytes. file_version options.metadata bytes ≡ x.version)) }
     ensures refused { IfErr result (λ e. IsRejected e →
-        IfSome (R.remaining source.old.device) (λ bytes. checked_of metadata bytes ≡ None)) }
-    ensures faults { IfErr result (FaultsRegistry metadata (R.remaining source.old.device)) }
+        IfSome (R.remaining source.old.device) (λ bytes. checked_of options bytes ≡ None)) }
+    ensures faults { IfErr result (FaultsRegistry options (R.remaining source.old.device)) }
     ensures device { IfErr result (λ e. IsDevice e → e ≡ Refusal.RegistryDevice) }
     ensures reported { IsErrOf result Refusal.RegistryDevice →
         FailsReading R.reads source.old source.new }
@@ -52,7 +52,7 @@ pub(crate) fn read_types<R: ReadOnce>(
 {
     let mut bytes = Vec::new(alloc);
     match gather_all(source, &mut bytes) {
-        Ok(()) => Ok(checked_registry(alloc, metadata, bytes.as_slice())?),
+        Ok(()) => Ok(checked_registry(alloc, options, bytes.as_slice())?),
         Err(GatherFault::Device) => Err(Refusal::RegistryDevice),
         Err(GatherFault::Memory) => Err(Refusal::Memory),
     }
@@ -73,22 +73,22 @@ fn with_position(checked: Checked, id: u32) -> Result<Checked, Refusal>
 /// Reads and checks the registry of the source, which must have a type at the position.
 pub(crate) fn read_types_with<R: ReadOnce>(
     alloc: Global,
-    metadata: bool,
+    options: OpenOptions,
     id: u32,
     source: &mut Source<R>,
 ) -> Result<Checked, Refusal>
     ensures known { IfOk result (λ types. id < length types.types) }
     ensures ok { IfOk result (λ types. IfSome (R.remaining source.old.device)
-        (λ bytes. types_with metadata id bytes ≡ Some types.types)) }
+        (λ bytes. types_with options id bytes ≡ Some types.types)) }
     ensures refused { IfErr result (λ e. IsRejected e →
-        IfSome (R.remaining source.old.device) (λ bytes. types_with metadata id bytes ≡ None)) }
-    ensures faults { IfErr result (FaultsType metadata id (R.remaining source.old.device)) }
+        IfSome (R.remaining source.old.device) (λ bytes. types_with options id bytes ≡ None)) }
+    ensures faults { IfErr result (FaultsType options id (R.remaining source.old.device)) }
     ensures device { IfErr result (λ e. IsDevice e → e ≡ Refusal.RegistryDevice) }
     ensures reported { IsErrOf result Refusal.RegistryDevice →
         FailsReading R.reads source.old source.new }
     ensures quiet { IsErrOf result Refusal.RegistryDevice
         ⊎ (source.new.failed ≡ source.old.failed) }
 {
-    let opened = read_types(alloc, metadata, source)?;
+    let opened = read_types(alloc, options, source)?;
     with_position(opened.checked, id)
 }

@@ -11,6 +11,8 @@ returns-clause-job c =
     let Position : Option Text → Type 0 = λ said. Spells said c.in_ok-id.id in
     let Metadata : Option Text → Type 0 = λ said. IsFlag said c.get_flag-metadata.result in
     let flag = c.get_flag-metadata.ensures in
+    let Bits : Option Text → Type 0 = λ said. IsFlag said c.get_flag-bits.result in
+    let bits = c.get_flag-bits.ensures in
     let Hex : Option Text → Type 0 = λ said. IsFlag said c.get_flag-hex.result in
     let hex = c.get_flag-hex.ensures in
     let Depth : Option Text → Type 0 = λ said. SpellsDepth said c.in_ok-depth.depth in (
@@ -23,6 +25,8 @@ returns-clause-job c =
             (flag.none, flag.value, flag.other);
         file_is = sym (c.in_ok-file.ensures ∙ first_value-rows found (codes "FILE"));
         value_is = sym (c.in_ok-value_file.ensures ∙ first_value-rows found (codes "VALUEFILE"));
+        bits_are = subst Bits (one_text-rows found (codes "bits"))
+            (bits.none, bits.value, bits.other);
         hex_is = subst Hex (one_text-rows found (codes "hex")) (hex.none, hex.value, hex.other);
         depth_is = subst Depth (c.get_str-2.ensures ∙ first_value-rows found (codes "depth"))
             c.in_ok-depth.ensures.depth.0;

@@ -13,6 +13,6 @@ returns-in_err-value-clause-faults g c =
     let p = err_from_is_err_and c.from_residual-in_err-value.result
     c.from_residual-in_err-value.ensures.1 in
     rw (p.1, p.2) (value_faults (g.R.Read.remaining c.args.registry.now.device)
-    (g.V.Read.remaining c.args.value.now.device) c.args.metadata c.args.hex c.args.id c.args.depth
+    (g.V.Read.remaining c.args.value.now.device) c.args.options c.args.hex c.args.id c.args.depth
     c.in_ok-checked.checked.types c.in_err-value.field-0.0 c.in_ok-checked.ensures.ok
     c.in_err-value.ensures.reports)

@@ -6,7 +6,7 @@ pub returns-in_err-checked_registry-in-Ok-clause-faults :
     goal.returns-in_err-checked_registry-in-Ok-clause-faults
 returns-in_err-checked_registry-in-Ok-clause-faults g c =
     let p = err_from_is_err_and c.from_residual.result c.from_residual.ensures.1 in
-    rw (p.1, p.2) (registry_faults _ c.args.metadata _ (gathered_refused _ c.args.metadata
+    rw (p.1, p.2) (registry_faults _ c.args.options _ (gathered_refused _ c.args.options
     c.new-bytes.result.items c.gather_all.new.out.items c.as_slice.result.now _
     c.new-bytes.ensures.items c.in-Ok.ensures.ok c.as_slice.ensures.value
     c.in_err-checked_registry-in-Ok.ensures.refuses))
