@@ -1,7 +1,7 @@
 /* Decodes a value as the command does, whole or in pieces, or lists the types of a registry.
  *
  *   decode types FILE [--metadata]
- *   decode decode FILE ID VALUEFILE [--metadata] [--depth D] [--pieces N]
+ *   decode decode FILE ID VALUEFILE [--metadata] [--bits] [--depth D] [--pieces N]
  */
 #include "scaleview.h"
 #include <errno.h>
@@ -127,7 +127,7 @@ static int decode_in_pieces(scaleview_registry registry, uint32_t type, uint16_t
 
 static int usage(void) {
     fprintf(stderr, "scaleview: usage: decode types FILE [--metadata]\n"
-                    "       or: decode decode FILE ID VALUEFILE [--metadata] [--depth D] [--pieces N]\n");
+                    "       or: decode decode FILE ID VALUEFILE [--metadata] [--bits] [--depth D] [--pieces N]\n");
     return 2;
 }
 
@@ -140,13 +140,15 @@ static bool parse(const char *word, unsigned long most, unsigned long *number) {
 }
 
 int main(int count, char **words) {
-    bool metadata = false;
+    uint32_t flags = 0;
     unsigned long type = 0, depth = 64, step = 0;
     const char *names[4] = {0};
     int named = 0;
     for (int i = 1; i < count; i++) {
         if (!strcmp(words[i], "--metadata")) {
-            metadata = true;
+            flags |= SCALEVIEW_METADATA;
+        } else if (!strcmp(words[i], "--bits")) {
+            flags |= SCALEVIEW_BITS;
         } else if (!strcmp(words[i], "--depth") && i + 1 < count) {
             if (!parse(words[++i], 1024, &depth)) return usage();
         } else if (!strcmp(words[i], "--pieces") && i + 1 < count) {
@@ -163,7 +165,7 @@ int main(int count, char **words) {
     scaleview_registry registry = {NULL};
     scaleview_answer answer;
     int status;
-    if (scaleview_open(file.at, file.length, metadata, &registry, &answer) != SCALEVIEW_OK) {
+    if (scaleview_open(file.at, file.length, flags, &registry, &answer) != SCALEVIEW_OK) {
         status = refuse(answer, 0);
     } else if (lists) {
         status = list(registry, &out);

@@ -1,5 +1,5 @@
 /* What handles do: sessions beside each other, a registry that is lent, wrong kinds, none, every order of freeing, numbers
- * of codes, too little room, too little memory, no memory at all. */
+ * of codes, bit sequences by a flag, too little room, too little memory, no memory at all. */
 #include "scaleview.h"
 #include <stdio.h>
 #include <string.h>
@@ -15,11 +15,18 @@ static void check(const char *what, bool is_so) {
 
 static const uint8_t u16_registry[] = {0x04, 0x00, 0x00, 0x00, 0x05, 0x04, 0x00};
 
+static const uint8_t bits_registry[] = {
+    0x0c,
+    0x00, 0x00, 0x00, 0x07, 0x04, 0x08, 0x00,                     /* 0: bits in 1, by 2 */
+    0x04, 0x00, 0x00, 0x05, 0x04, 0x00,                           /* 1: u16 */
+    0x08, 0x04, 0x10, 'M', 's', 'b', '0', 0x00, 0x00, 0x00, 0x00, /* 2: Msb0 */
+};
+
 static void check_lending(void) {
     scaleview_registry registry = {NULL};
     scaleview_session first = {NULL}, second = {NULL};
     scaleview_answer answer;
-    check("opened", scaleview_open(u16_registry, sizeof u16_registry, false, &registry, &answer) == SCALEVIEW_OK);
+    check("opened", scaleview_open(u16_registry, sizeof u16_registry, 0, &registry, &answer) == SCALEVIEW_OK);
     check("one type", answer.length == 1);
     check("first", scaleview_start(registry, 0, 64, 1 << 24, 0, &first, &answer) == SCALEVIEW_OK);
     check("second", scaleview_start(registry, 0, 64, 1 << 24, 0, &second, &answer) == SCALEVIEW_OK);
@@ -46,7 +53,7 @@ static void check_kinds(void) {
     scaleview_session session = {NULL}, other = {NULL};
     scaleview_answer answer;
     uint8_t out[64];
-    scaleview_open(u16_registry, sizeof u16_registry, false, &registry, &answer);
+    scaleview_open(u16_registry, sizeof u16_registry, 0, &registry, &answer);
     scaleview_start(registry, 0, 64, 1 << 24, 0, &session, &answer);
     scaleview_registry wrong = {session.inside};
     check("types of a session", scaleview_types(wrong, &answer) == SCALEVIEW_NO_HANDLE);
@@ -91,9 +98,9 @@ static void check_taken(void) {
     scaleview_registry registry = {NULL};
     scaleview_session session = {NULL};
     scaleview_answer answer;
-    scaleview_open(u16_registry, sizeof u16_registry, false, &registry, &answer);
+    scaleview_open(u16_registry, sizeof u16_registry, 0, &registry, &answer);
     void *inside = registry.inside;
-    check("opened over another", scaleview_open(u16_registry, sizeof u16_registry, false, &registry, &answer) == SCALEVIEW_TAKEN);
+    check("opened over another", scaleview_open(u16_registry, sizeof u16_registry, 0, &registry, &answer) == SCALEVIEW_TAKEN);
     check("the one before", registry.inside == inside && answer.code == SCALEVIEW_TAKEN);
     scaleview_start(registry, 0, 64, 9, 0, &session, &answer);
     inside = session.inside;
@@ -108,10 +115,10 @@ static void check_opened(void) {
     static const uint8_t metadata[] = {0x6d, 0x65, 0x74, 0x61, 0x0f, 0x04, 0x00, 0x00, 0x00, 0x05, 0x04, 0x00, 0xff};
     scaleview_registry registry = {NULL};
     scaleview_answer answer;
-    scaleview_open(u16_registry, sizeof u16_registry, false, &registry, &answer);
+    scaleview_open(u16_registry, sizeof u16_registry, 0, &registry, &answer);
     check("a registry alone", answer.from == 0 && answer.at == sizeof u16_registry && answer.length == 1);
     scaleview_close(&registry);
-    scaleview_open(metadata, sizeof metadata, true, &registry, &answer);
+    scaleview_open(metadata, sizeof metadata, SCALEVIEW_METADATA, &registry, &answer);
     check("metadata 15", answer.from == 15 && answer.at == sizeof metadata - 1 && answer.length == 1);
     scaleview_close(&registry);
 }
@@ -133,7 +140,8 @@ static void check_names(void) {
                  {SCALEVIEW_LIMIT_OUT_OF_RANGE, "LimitOutOfRange"},
                  {SCALEVIEW_VALUE_BAD_CHAR, "BadChar"},
                  {SCALEVIEW_VALUE_TRAILING_BYTES, "TrailingBytes"},
-                 {SCALEVIEW_VALUE_TRAILING_BYTES + 1, ""},
+                 {SCALEVIEW_VALUE_UNUSED_BITS, "UnusedBits"},
+                 {SCALEVIEW_VALUE_UNUSED_BITS + 1, ""},
                  {UINT32_MAX, ""}};
     uint8_t out[18];
     scaleview_answer answer;
@@ -153,7 +161,7 @@ static void check_counts(void) {
     scaleview_session session = {NULL};
     scaleview_answer answer;
     uint8_t out[8];
-    scaleview_open(bytes_registry, sizeof bytes_registry, false, &registry, &answer);
+    scaleview_open(bytes_registry, sizeof bytes_registry, 0, &registry, &answer);
     scaleview_start(registry, 1, 64, 99, 0, &session, &answer);
     check("a run goes on", scaleview_feed(&session, (const uint8_t *)"\x0c\x01", 2, &answer) == SCALEVIEW_MORE);
     check("one byte of it", scaleview_text_bytes(&session, &answer) == SCALEVIEW_OK && answer.length == 1);
@@ -175,7 +183,7 @@ static void check_limit(void) {
     scaleview_session session = {NULL};
     scaleview_answer answer;
     uint8_t out[8];
-    scaleview_open(u32_registry, sizeof u32_registry, false, &registry, &answer);
+    scaleview_open(u32_registry, sizeof u32_registry, 0, &registry, &answer);
     scaleview_start(registry, 0, 64, 2, 0, &session, &answer);
     check("up to the limit", scaleview_feed(&session, (const uint8_t *)"\x01\x02", 2, &answer) == SCALEVIEW_MORE);
     check("cut at the limit", scaleview_finish(&session, out, sizeof out, &answer) == SCALEVIEW_VALUE_TRUNCATED && answer.at == 2);
@@ -198,7 +206,7 @@ static void check_memory(void) {
     scaleview_answer answer;
     uint8_t out[8];
     bool is_enough = false, is_kept = false;
-    scaleview_open(u16_registry, sizeof u16_registry, false, &registry, &answer);
+    scaleview_open(u16_registry, sizeof u16_registry, 0, &registry, &answer);
     for (uint64_t memory = 1; memory <= 4096; memory++) {
         const uint8_t *bytes = (const uint8_t *)"\x01\x02";
         scaleview_session session = {NULL};
@@ -255,7 +263,7 @@ static void check_later_pieces(void) {
     static const char *pieces[STATES] = {"\x00", "\xff", "i", "i", "i", "i"};
     scaleview_registry registry = {NULL};
     scaleview_answer answer;
-    scaleview_open(str_registry, sizeof str_registry, false, &registry, &answer);
+    scaleview_open(str_registry, sizeof str_registry, 0, &registry, &answer);
     for (int state = 0; state < STATES; state++) {
         scaleview_session session = started(registry, state);
         uint32_t code = scaleview_feed(&session, (const uint8_t *)pieces[state], 1, &answer);
@@ -274,7 +282,7 @@ static void check_orders(void) {
         bool asks = order & 1, second_first = order & 2;
         scaleview_registry registry = {NULL};
         scaleview_answer answer;
-        scaleview_open(str_registry, sizeof str_registry, false, &registry, &answer);
+        scaleview_open(str_registry, sizeof str_registry, 0, &registry, &answer);
         scaleview_session a = started(registry, order / 4 / STATES), b = started(registry, order / 4 % STATES);
         check("both have it", !asks || scaleview_close(&registry) == SCALEVIEW_LENT);
         check("one is freed", scaleview_free(second_first ? &b : &a) == SCALEVIEW_OK);
@@ -291,6 +299,8 @@ static void check_numbers(void) {
     check("answers", SCALEVIEW_OK == 0 && SCALEVIEW_MORE == 1 && SCALEVIEW_NO_ROOM == 2 && SCALEVIEW_MEMORY == 3 &&
                          SCALEVIEW_LENT == 4 && SCALEVIEW_NO_HANDLE == 5 && SCALEVIEW_TAKEN == 6);
     check("types and limits", SCALEVIEW_UNKNOWN_TYPE == 201 && SCALEVIEW_LIMIT_OUT_OF_RANGE == 202);
+    check("flags", SCALEVIEW_METADATA == true && SCALEVIEW_BITS == 4);
+    check("the last kind of nodes", SCALEVIEW_NODE_BITS == 13);
     const uint32_t of_registries[] = {
         SCALEVIEW_REGISTRY_TRUNCATED,
         SCALEVIEW_REGISTRY_BAD_UTF8,
@@ -322,6 +332,7 @@ static void check_numbers(void) {
         SCALEVIEW_VALUE_BAD_COMPACT,
         SCALEVIEW_VALUE_TOO_LONG,
         SCALEVIEW_VALUE_TRAILING_BYTES,
+        SCALEVIEW_VALUE_UNUSED_BITS,
     };
     for (uint32_t i = 0; i < sizeof of_values / sizeof *of_values; i++) {
         check("a name of a value's refusal", of_values[i] == 301 + i);
@@ -329,29 +340,29 @@ static void check_numbers(void) {
     struct {
         const char *bytes;
         size_t length;
-        bool metadata;
+        uint32_t flags;
         uint32_t code;
         uint64_t at;
         uint32_t from;
     } registries[] = {
-        {"\x04", 1, false, 101, 1, 0},
-        {"\x04\x00\x04\x04\xff", 5, false, 102, 4, 0},
-        {"\x01\x00", 2, false, 103, 0, 0},
-        {"\x07", 1, false, 104, 0, 0},
-        {"\x04\x00\x00\x00\x00\x04\x02", 7, false, 105, 6, 0},
-        {"\x04\x00\x00\x00\x08\x00", 6, false, 106, 4, 0},
-        {"\x04\x00\x00\x00\x05\x0f\x00", 7, false, 107, 5, 0},
-        {"\x04\x04\x00\x00\x05\x03\x00", 7, false, 108, 1, 0},
-        {"\x6d\x66", 2, true, 109, 1, 0},
-        {"\x6d\x65\x74\x61\x10", 5, true, 110, 4, 0},
-        {"\x04\x00\x00\x00\x05\x03\x00\xff", 8, false, 111, 7, 0},
-        {"\x04\x00\x00\x00\x02\x04\x00", 7, false, 112, 1, 0},
-        {"\x08\x00\x00\x00\x05\x03\x00\x04\x00\x00\x02\x08\x00", 13, false, 112, 2, 1},
+        {"\x04", 1, 0, 101, 1, 0},
+        {"\x04\x00\x04\x04\xff", 5, 0, 102, 4, 0},
+        {"\x01\x00", 2, 0, 103, 0, 0},
+        {"\x07", 1, 0, 104, 0, 0},
+        {"\x04\x00\x00\x00\x00\x04\x02", 7, 0, 105, 6, 0},
+        {"\x04\x00\x00\x00\x08\x00", 6, 0, 106, 4, 0},
+        {"\x04\x00\x00\x00\x05\x0f\x00", 7, 0, 107, 5, 0},
+        {"\x04\x04\x00\x00\x05\x03\x00", 7, 0, 108, 1, 0},
+        {"\x6d\x66", 2, SCALEVIEW_METADATA, 109, 1, 0},
+        {"\x6d\x65\x74\x61\x10", 5, SCALEVIEW_METADATA, 110, 4, 0},
+        {"\x04\x00\x00\x00\x05\x03\x00\xff", 8, 0, 111, 7, 0},
+        {"\x04\x00\x00\x00\x02\x04\x00", 7, 0, 112, 1, 0},
+        {"\x08\x00\x00\x00\x05\x03\x00\x04\x00\x00\x02\x08\x00", 13, 0, 112, 2, 1},
     };
     for (size_t i = 0; i < sizeof registries / sizeof *registries; i++) {
         scaleview_registry registry = {NULL};
         scaleview_answer answer;
-        uint32_t code = scaleview_open((const uint8_t *)registries[i].bytes, registries[i].length, registries[i].metadata,
+        uint32_t code = scaleview_open((const uint8_t *)registries[i].bytes, registries[i].length, registries[i].flags,
                                        &registry, &answer);
         check("a registry's code", code == registries[i].code && answer.code == code && answer.from == registries[i].from);
         check("a registry's place", answer.at == registries[i].at && !registry.inside);
@@ -380,6 +391,7 @@ static void check_numbers(void) {
         {"\x04\x00\x00\x00\x06\x00\x00", 7, "", 0, 64, 99, 311, 0},
         {"\x04\x00\x00\x00\x05\x04\x00", 7, "\x01\x00", 2, 64, 1, 312, 1},
         {"\x04\x00\x00\x00\x05\x04\x00", 7, "\x01\x00\xff", 3, 64, 99, 313, 2},
+        {(const char *)bits_registry, sizeof bits_registry, "\x24\x01", 2, 64, 99, 314, 1},
         {"\x00", 1, "", 0, 64, 99, 201, 0},
         {"\x04\x00\x00\x00\x05\x04\x00", 7, "\x01\x00", 2, 1025, 99, 202, 0},
         {"\x04\x00\x00\x00\x05\x04\x00", 7, "\x01\x00", 2, 64, 1099511627777, 202, 0},
@@ -388,13 +400,99 @@ static void check_numbers(void) {
         scaleview_registry registry = {NULL};
         scaleview_answer answer;
         uint8_t out[64];
-        check("a registry", scaleview_open((const uint8_t *)values[i].registry, values[i].registry_length, false, &registry,
-                                           &answer) == SCALEVIEW_OK);
+        check("a registry", scaleview_open((const uint8_t *)values[i].registry, values[i].registry_length, SCALEVIEW_BITS,
+                                           &registry, &answer) == SCALEVIEW_OK);
         scaleview_decode(registry, 0, values[i].depth, values[i].limit, 0, (const uint8_t *)values[i].bytes, values[i].length,
                          out, sizeof out, &answer);
         if (answer.code != values[i].code || answer.at != values[i].at) printf("handles: code %u for %u\n", answer.code, values[i].code);
         check("a value's code and place", answer.code == values[i].code && answer.at == values[i].at);
         scaleview_close(&registry);
+    }
+}
+
+static bool is_answer(scaleview_answer answer, uint32_t code, uint64_t at, uint64_t length) {
+    return answer.code == code && answer.at == at && answer.length == length;
+}
+
+static const uint8_t nine_bits[] = {0x24, 0x00, 0x92};
+
+/* Nine bits, of which each third is 1: their text and their node, whole and byte by byte. */
+static void check_bits_read(scaleview_registry registry) {
+    scaleview_session session = {NULL};
+    scaleview_answer answer;
+    scaleview_node node, fed;
+    uint8_t out[16], pool[2];
+    scaleview_decode(registry, 0, 64, 9, 0, nine_bits, sizeof nine_bits, out, sizeof out, &answer);
+    check("the text of bits", is_answer(answer, SCALEVIEW_OK, 0, 13) && !memcmp(out, "\"0b100100100\"", 13));
+    scaleview_decode_nodes(registry, 0, 64, 9, 0, nine_bits, sizeof nine_bits, &node, 1, pool, sizeof pool, &answer);
+    check("the node of bits", is_answer(answer, SCALEVIEW_OK, 2, 1) && node.kind == SCALEVIEW_NODE_BITS && node.type == 0);
+    check("its numbers", node.children == 0 && node.arm == 0 && node.low == 0 && node.high == 9);
+    check("its words", !memcmp(pool, nine_bits + 1, 2));
+    scaleview_start(registry, 0, 64, 9, 0, &session, &answer);
+    for (size_t at = 0; at < sizeof nine_bits; at++) {
+        scaleview_feed(&session, nine_bits + at, 1, &answer);
+        check("fed", is_answer(answer, at < 2 ? SCALEVIEW_MORE : SCALEVIEW_OK, 0, at < 2 ? 0 : 1));
+        scaleview_text_bytes(&session, &answer);
+        check("its bytes are held", is_answer(answer, SCALEVIEW_OK, 0, at));
+    }
+    scaleview_finish_nodes(&session, &fed, 1, pool, sizeof pool, &answer);
+    check("the same node", is_answer(answer, SCALEVIEW_OK, 2, 1) && !memcmp(&node, &fed, sizeof node));
+    check("freed", scaleview_free(&session) == SCALEVIEW_OK);
+}
+
+/* Nodes of bits are encoded or rejected. */
+static void check_bits_encoded(scaleview_registry registry) {
+    static const struct {
+        uint32_t kind, type;
+        uint64_t low, high;
+        uint32_t code;
+    } nodes[] = {
+        {SCALEVIEW_NODE_BITS, 0, 1, 9, SCALEVIEW_OK},
+        {SCALEVIEW_NODE_BITS, 0, 1, 7, SCALEVIEW_OK},
+        {SCALEVIEW_NODE_BITS, 0, 1, 6, SCALEVIEW_NODES_OUT_OF_RANGE}, /* an unused bit is 1 */
+        {SCALEVIEW_NODE_BITS, 0, 1, 17, SCALEVIEW_NODES_OUT_OF_RANGE},
+        {SCALEVIEW_NODE_BITS, 0, 2, 9, SCALEVIEW_NODES_OUT_OF_RANGE},
+        {SCALEVIEW_NODE_BITS, 0, UINT64_MAX, 9, SCALEVIEW_NODES_OUT_OF_RANGE},
+        {SCALEVIEW_NODE_BITS, 0, 1, (uint64_t)1 << 32, SCALEVIEW_NODES_OUT_OF_RANGE},
+        {SCALEVIEW_NODE_BITS, 1, 1, 9, SCALEVIEW_NODES_OUT_OF_RANGE}, /* its type has no words */
+        {SCALEVIEW_NODE_BITS, 3, 1, 9, SCALEVIEW_NODES_OUT_OF_RANGE},
+        {SCALEVIEW_NODE_BYTES, 0, 1, 2, SCALEVIEW_NODES_WRONG_KIND},
+        {SCALEVIEW_NODE_BITS + 1, 0, 1, 9, SCALEVIEW_NODES_WRONG_KIND},
+    };
+    scaleview_answer answer;
+    uint8_t out[4];
+    for (size_t i = 0; i < sizeof nodes / sizeof *nodes; i++) {
+        scaleview_node node = {nodes[i].kind, nodes[i].type, 0, 0, nodes[i].low, nodes[i].high};
+        scaleview_encode_nodes(registry, 0, 64, 0, &node, 1, nine_bits, sizeof nine_bits, out, sizeof out, &answer);
+        check("a node of bits", is_answer(answer, nodes[i].code, 0, nodes[i].code == SCALEVIEW_OK ? 3 : 0));
+        bool is_same = out[0] == nodes[i].high << 2 && !memcmp(out + 1, nine_bits + 1, 2);
+        check("its bytes", answer.code != SCALEVIEW_OK || is_same);
+    }
+}
+
+/* Bits are read by the flag, whatever else the flags are, and otherwise rejected; the types are the same. */
+static void check_bits(void) {
+    static const scaleview_type_shape wanted = {SCALEVIEW_BIT_SEQUENCE, SCALEVIEW_SIZED, 0, 1, 2, 0, 0};
+    static const uint32_t flags[] = {0, SCALEVIEW_BITS, 0xfffffff8, 0xfffffff8 | SCALEVIEW_BITS};
+    for (size_t i = 0; i < sizeof flags / sizeof *flags; i++) {
+        bool are_read = flags[i] & SCALEVIEW_BITS;
+        scaleview_registry registry = {NULL};
+        scaleview_type_shape shape;
+        scaleview_answer answer;
+        scaleview_node node = {.kind = SCALEVIEW_NODE_BITS, .low = 1, .high = 9};
+        uint8_t out[16];
+        check("opened", scaleview_open(bits_registry, sizeof bits_registry, flags[i], &registry, &answer) == SCALEVIEW_OK);
+        scaleview_type(registry, 0, &shape, &answer);
+        check("its shape", answer.code == SCALEVIEW_OK && !memcmp(&shape, &wanted, sizeof shape));
+        scaleview_decode(registry, 0, 64, 9, 0, nine_bits, sizeof nine_bits, out, sizeof out, &answer);
+        check("bits", is_answer(answer, are_read ? SCALEVIEW_OK : SCALEVIEW_VALUE_BIT_SEQUENCE, 0, are_read ? 13 : 0));
+        scaleview_encode_nodes(registry, 0, 64, 0, &node, 1, nine_bits, sizeof nine_bits, out, sizeof out, &answer);
+        check("bits encoded", is_answer(answer, are_read ? SCALEVIEW_OK : SCALEVIEW_NODES_BIT_SEQUENCE, 0, are_read ? 3 : 0));
+        if (are_read) {
+            check_bits_read(registry);
+            check_bits_encoded(registry);
+        }
+        check("closed", scaleview_close(&registry) == SCALEVIEW_OK);
     }
 }
 
@@ -406,10 +504,6 @@ static const uint8_t small_registry[] = {
     0x0c, 0x00, 0x00, 0x01, 0x04, 0x00, 0x04, 0x00, 0x04, 0x00, 0x00, 0x00, 0x00, 0x00, /* 3: an arm of 1, named "" */
     0x10, 0x00, 0x00, 0x05, 0x02, 0x00,                                                 /* 4: str */
 };
-
-static bool is_answer(scaleview_answer answer, uint32_t code, uint64_t at, uint64_t length) {
-    return answer.code == code && answer.at == at && answer.length == length;
-}
 
 /* A pointer may be NULL if its length is 0: by the calls that describe types. */
 static void check_null_names(scaleview_registry registry) {
@@ -488,11 +582,11 @@ static void check_null_session(scaleview_registry registry, uint32_t type, size_
 static void check_null(void) {
     scaleview_registry registry = {NULL};
     scaleview_answer answer;
-    for (int metadata = 0; metadata < 2; metadata++) {
-        scaleview_open(NULL, 0, metadata, &registry, &answer);
+    for (uint32_t flags = 0; flags <= (SCALEVIEW_METADATA | SCALEVIEW_BITS); flags++) {
+        scaleview_open(NULL, 0, flags, &registry, &answer);
         check("no registry", is_answer(answer, SCALEVIEW_REGISTRY_TRUNCATED, 0, 0) && !registry.inside);
     }
-    check("opened", scaleview_open(small_registry, sizeof small_registry, false, &registry, &answer) == SCALEVIEW_OK);
+    check("opened", scaleview_open(small_registry, sizeof small_registry, 0, &registry, &answer) == SCALEVIEW_OK);
     check_null_names(registry);
     check_null_values(registry);
     check_null_session(registry, 0, 0);
@@ -513,6 +607,7 @@ int main(void) {
     check_later_pieces();
     check_orders();
     check_numbers();
+    check_bits();
     check_null();
     return failures > 0;
 }

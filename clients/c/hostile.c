@@ -109,7 +109,7 @@ static void check_value(const struct hostile *hostile, scaleview_registry regist
 static void check_hostile(struct hostile hostile) {
     scaleview_registry registry = {NULL};
     scaleview_answer answer;
-    uint32_t code = scaleview_open(hostile.registry.at, hostile.registry.length, false, &registry, &answer);
+    uint32_t code = scaleview_open(hostile.registry.at, hostile.registry.length, 0, &registry, &answer);
     check("opened", code == SCALEVIEW_OK);
     free(hostile.registry.at);
     check_value(&hostile, registry, hostile.elements, SCALEVIEW_MEMORY, hostile.nodes_code);

@@ -61,7 +61,7 @@ static int run(size_t registry_length, uint32_t type, size_t length, long reques
     scaleview_registry registry = {NULL};
     scaleview_session session = {NULL};
     scaleview_answer answer;
-    uint32_t code = scaleview_open(bytes[0], registry_length, false, &registry, &answer);
+    uint32_t code = scaleview_open(bytes[0], registry_length, SCALEVIEW_BITS, &registry, &answer);
     int wants = code == SCALEVIEW_MEMORY;
     check("opened or not", code == SCALEVIEW_OK ? registry.inside != NULL : code == SCALEVIEW_MEMORY && !registry.inside, request);
     if (code != SCALEVIEW_OK) return wants;

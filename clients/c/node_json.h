@@ -78,6 +78,26 @@ static inline void put_hex(struct node_text *text, const uint8_t *bytes, uint64_
     *text->at++ = '"';
 }
 
+/* A text of the bits of a bit sequence. Its type says how they stand in its words. */
+static inline void put_bits(struct node_text *text, const scaleview_node *node) {
+    scaleview_type_shape shape, word;
+    scaleview_answer answer;
+    uint8_t order[NAME_ROOM];
+    scaleview_type(text->registry, node->type, &shape, &answer);
+    scaleview_type(text->registry, shape.element, &word, &answer);
+    scaleview_path(text->registry, shape.order, order, sizeof order, &answer);
+    expect_name(&answer);
+    bool is_msb = order[answer.length - 4] == 'M';
+    uint64_t width = 8ull << (word.primitive - SCALEVIEW_U8);
+    put_bytes(text, "\"0b", 3);
+    for (uint64_t i = 0; i < node->high; i++) {
+        uint64_t in_word = is_msb ? width - 1 - i % width : i % width;
+        uint8_t byte = text->pool[node->low + i / width * (width / 8) + in_word / 8];
+        *text->at++ = byte >> in_word % 8 & 1 ? '1' : '0';
+    }
+    *text->at++ = '"';
+}
+
 /* What the values of a type that wraps one primitive are, as a compact does. */
 static inline uint32_t primitive_of(scaleview_registry registry, uint32_t type) {
     scaleview_type_shape shape;
@@ -135,7 +155,8 @@ static inline bool read_names(struct node_text *text, const scaleview_node *node
 }
 
 static inline const scaleview_node *after(const scaleview_node *node) {
-    return node + (node->kind < SCALEVIEW_NODE_FIELDS ? 1 : node->low);
+    bool is_branch = node->kind >= SCALEVIEW_NODE_FIELDS && node->kind <= SCALEVIEW_NODE_LIST;
+    return node + (is_branch ? node->low : 1);
 }
 
 static inline void put_node(struct node_text *text, const scaleview_node *node);
@@ -179,15 +200,15 @@ static inline void put_arm(struct node_text *text, const scaleview_node *node) {
 }
 
 static inline void put_node(struct node_text *text, const scaleview_node *node) {
-    const uint8_t *bytes = text->pool + node->low;
     switch (node->kind) {
     case SCALEVIEW_NODE_EMPTY: put_bytes(text, "null", 4); return;
     case SCALEVIEW_NODE_BOOL: text->at += sprintf(text->at, "%s", node->low ? "true" : "false"); return;
     case SCALEVIEW_NODE_CHAR: put_char(text, (uint32_t)node->low); return;
     case SCALEVIEW_NODE_COUNT: text->at += sprintf(text->at, "{\"count\":%llu}", (unsigned long long)node->low); return;
-    case SCALEVIEW_NODE_TEXT: put_string(text, bytes, (size_t)node->high); return;
-    case SCALEVIEW_NODE_BYTES: put_hex(text, bytes, node->high, false); return;
-    case SCALEVIEW_NODE_WIDE: put_hex(text, bytes, node->high, true); return;
+    case SCALEVIEW_NODE_TEXT: put_string(text, text->pool + node->low, (size_t)node->high); return;
+    case SCALEVIEW_NODE_BYTES: put_hex(text, text->pool + node->low, node->high, false); return;
+    case SCALEVIEW_NODE_WIDE: put_hex(text, text->pool + node->low, node->high, true); return;
+    case SCALEVIEW_NODE_BITS: put_bits(text, node); return;
     case SCALEVIEW_NODE_FIELDS: put_fields(text, node); return;
     case SCALEVIEW_NODE_ARM: put_arm(text, node); return;
     case SCALEVIEW_NODE_LIST: put_children(text, node, NULL); return;

@@ -77,17 +77,25 @@ enum scaleview_code {
     SCALEVIEW_VALUE_BAD_COMPACT = 311,
     SCALEVIEW_VALUE_TOO_LONG = 312,
     SCALEVIEW_VALUE_TRAILING_BYTES = 313, /* bytes follow the value, which ends at `at` */
+    SCALEVIEW_VALUE_UNUSED_BITS = 314,    /* a bit that stands for none of a bit sequence is 1 */
 
     /* The node at the position `at` is rejected. */
     SCALEVIEW_NODES_TOO_DEEP = 401,       /* it is deeper than `depth` */
     SCALEVIEW_NODES_NO_FINITE_VALUE = 402, /* its type has no finite value */
-    SCALEVIEW_NODES_BIT_SEQUENCE = 403,   /* its type is a bit sequence, whose values are not supported */
+    SCALEVIEW_NODES_BIT_SEQUENCE = 403,   /* its type is a bit sequence that the registry doesn't read */
     SCALEVIEW_NODES_BAD_COMPACT = 404,    /* its type is a compact that wraps no unsigned integer */
     SCALEVIEW_NODES_WRONG_KIND = 405,     /* it is of another kind than its type, of no kind, or follows a complete value */
-    SCALEVIEW_NODES_OUT_OF_RANGE = 406,   /* a number, a length, a range of the pool or a number of children is out of range */
+    SCALEVIEW_NODES_OUT_OF_RANGE = 406,   /* a number, a length, a range of the pool or a number of children is out of range,
+                                           * or an unused bit is 1 */
     SCALEVIEW_NODES_NO_SUCH_VARIANT = 407, /* no arm has this position, or an earlier arm has its index */
     SCALEVIEW_NODES_UNFINISHED_VALUE = 408, /* a node is missing; `at` is the number of nodes */
     SCALEVIEW_NODES_BAD_TEXT = 409        /* a text is not UTF-8 */
+};
+
+/* How scaleview_open opens a registry: 0, or these joined by `|`. Other bits are ignored. */
+enum scaleview_flag {
+    SCALEVIEW_METADATA = 1, /* the bytes are a chain's metadata, version 14 or 15, which begins with the registry */
+    SCALEVIEW_BITS = 4      /* values of bit sequences are read, where the store and the order are known */
 };
 
 /* The kinds of types, in the order of scale-info's TypeDef. */
@@ -134,7 +142,7 @@ typedef struct scaleview_type_shape {
     uint32_t value_class; /* of enum scaleview_class */
     uint32_t primitive;   /* of enum scaleview_primitive, if the kind is SCALEVIEW_PRIMITIVE */
     uint32_t element;     /* the type of a sequence's or an array's elements, a compact's target, or a bit sequence's store */
-    uint32_t order;       /* the type that names the order of a bit sequence */
+    uint32_t order;       /* the type that names the order of a bit sequence, by the last segment of its path */
     uint32_t length;      /* the number of elements of an array */
     uint32_t parts;       /* the number of fields of a composite, of members of a tuple, or of arms of a variant */
 } scaleview_type_shape;
@@ -153,12 +161,18 @@ enum scaleview_node_kind {
     SCALEVIEW_NODE_WIDE = 9,     /* a 256-bit integer: 32 bytes, the lowest first, from the position `low` of the pool on */
     SCALEVIEW_NODE_FIELDS = 10,  /* a composite or a tuple */
     SCALEVIEW_NODE_ARM = 11,     /* a variant, whose arm is at the position `arm` of its type */
-    SCALEVIEW_NODE_LIST = 12     /* an array or a sequence of another type than u8 */
+    SCALEVIEW_NODE_LIST = 12,    /* an array or a sequence of another type than u8 */
+    SCALEVIEW_NODE_BITS = 13     /* a bit sequence of `high` bits, whose words begin at the position `low` of the pool */
 };
 
 /* A node of a value. The nodes of a value stand in the order of their bytes, each before its children, and the bytes of its
- * texts, byte runs and 256-bit integers in the same order in a pool beside them. Numbers are 0 unless the kind gives them a
- * meaning. */
+ * texts, byte runs, bit sequences and 256-bit integers in the same order in a pool beside them. Numbers are 0 unless the kind
+ * gives them a meaning.
+ *
+ * The type of a SCALEVIEW_NODE_BITS says where each bit is. In the shape that scaleview_type reports of it, `element` is the
+ * type of a word: u8, u16, u32 or u64, so its width w is 8, 16, 32 or 64. `order` is a type whose path ends with Lsb0 or Msb0.
+ * The words have w / 8 * ceil(high / w) bytes in the pool, and each is little-endian. Bit i is in the word floor(i / w), where
+ * it has the value 2^(i mod w) with Lsb0, and 2^(w - 1 - i mod w) with Msb0. The unused bits of the last word are 0. */
 typedef struct scaleview_node {
     uint32_t kind;     /* of enum scaleview_node_kind */
     uint32_t type;     /* the position of its type */
@@ -166,7 +180,7 @@ typedef struct scaleview_node {
     uint32_t arm;      /* the position of a variant's arm, which is not its index */
     uint64_t low;      /* a number's low half, or a place in the pool; of a composite, a tuple, a variant or a list how many
                         * nodes its subtree has, itself included */
-    uint64_t high;     /* a number's high half, or how many bytes it has in the pool */
+    uint64_t high;     /* a number's high half, how many bytes it has in the pool, or how many bits it has */
 } scaleview_node;
 
 /* What a call reports besides its code, which is repeated here. Numbers are 0 unless the code gives them a meaning. */
@@ -191,14 +205,18 @@ typedef struct scaleview_session {
     void *inside;
 } scaleview_session;
 
-/* Opens the registry that all the bytes hold. With `metadata` they are a chain's metadata, version 14 or 15, which begins
- * with the registry; what follows it is not read. The bytes are not kept.
+/* Opens the registry that all the bytes hold. `flags` is 0, or of enum scaleview_flag. With SCALEVIEW_METADATA the bytes are a
+ * chain's metadata, version 14 or 15, which begins with the registry; what follows it is not read. The bytes are not kept.
+ *
+ * With SCALEVIEW_BITS, values of a bit sequence are read if its store is the primitive u8, u16, u32 or u64 itself, and its
+ * order is a composite without fields, with a path that ends with Lsb0 or Msb0. Values of all others, and of every bit sequence
+ * without the flag, are rejected with SCALEVIEW_VALUE_BIT_SEQUENCE. The calls that describe types report the same either way.
  *
  * `registry` must be null, or the call returns SCALEVIEW_TAKEN. After SCALEVIEW_OK it is a registry that the caller closes;
  * `answer->length` is its number of types, `answer->at` is where it ends, and `answer->from` is the version of the metadata,
- * or 0 without `metadata`. Otherwise the call returns SCALEVIEW_MEMORY or a code of
+ * or 0 without SCALEVIEW_METADATA. Otherwise the call returns SCALEVIEW_MEMORY or a code of
  * SCALEVIEW_REGISTRY_*, and `registry` stays null. */
-uint32_t scaleview_open(const uint8_t *bytes, size_t length, bool metadata, scaleview_registry *registry,
+uint32_t scaleview_open(const uint8_t *bytes, size_t length, uint32_t flags, scaleview_registry *registry,
                         scaleview_answer *answer);
 
 /* Frees a registry, sets it to null and returns SCALEVIEW_OK. While a session of it is not freed, the call returns
@@ -263,14 +281,15 @@ uint32_t scaleview_find(scaleview_registry registry, uint32_t from, const uint8_
 
 /* Decodes the value, of the type at this position, that all the bytes spell, and writes its JSON to the front of `out`: UTF-8
  * of `answer->length` bytes, without a terminating 0. The value has at most `limit` bytes, up to 2^40, and no part of it is
- * deeper than `depth`, up to 1024; the value itself has depth 0.
+ * deeper than `depth`, up to 1024; the value itself has depth 0. A bit sequence is a string: 0b, and each bit in order as 0
+ * or 1.
  *
  * `memory` is the most bytes that the library may hold at once for the value and its text; 0 stands for no budget. If more
  * are needed, the call returns SCALEVIEW_MEMORY. What counts:
  *
  * - the value: a list of its nodes, 24 bytes each; one of its open levels, 24 bytes each; and one of the bytes of its
- *   texts, byte runs and integers above 64 bits. Each has spare capacity: at first for 16 elements, and later for up to
- *   three times as many as it has;
+ *   texts, byte runs, bit sequences and integers above 64 bits. Each has spare capacity: at first for 16 elements, and
+ *   later for up to three times as many as it has;
  * - the text while it is written. Its capacity is at most 256 bytes more than twice its length. A value that is one
  *   byte run, or one text without an escape, takes no memory here.
  *
@@ -297,8 +316,8 @@ uint32_t scaleview_decode_nodes(scaleview_registry registry, uint32_t type, uint
  * `answer->length` bytes, which scaleview_decode_nodes turns into the same nodes. No node is deeper than `depth`, up to 1024.
  * `memory` is the most bytes that the library allocates at once for the value and its bytes; 0 stands for no budget.
  *
- * Of a node, `type` is not read, nor is `low` of a composite, a tuple, a variant or a list. Two nodes may have the same bytes
- * of the pool.
+ * Of a node, `type` is read only if it is a SCALEVIEW_NODE_BITS, and `low` of a composite, a tuple, a variant or a list is not
+ * read. Two nodes may have the same bytes of the pool.
  *
  * Otherwise it returns SCALEVIEW_NO_ROOM, SCALEVIEW_UNKNOWN_TYPE, SCALEVIEW_LIMIT_OUT_OF_RANGE, SCALEVIEW_MEMORY,
  * SCALEVIEW_NO_HANDLE, or a code of SCALEVIEW_NODES_* with the position of the first node that is rejected in
@@ -324,7 +343,7 @@ uint32_t scaleview_start(scaleview_registry registry, uint32_t type, uint16_t de
  * - SCALEVIEW_NO_HANDLE. */
 uint32_t scaleview_feed(scaleview_session *session, const uint8_t *piece, size_t length, scaleview_answer *answer);
 
-/* Report the number of bytes taken of all pieces, of nodes held, and of bytes of texts and byte runs held, in
+/* Report the number of bytes taken of all pieces, of nodes held, and of bytes of texts, byte runs and bit sequences held, in
  * `answer->length`. After an error no nodes and no bytes are held. After scaleview_finish the number of bytes taken is 0, and
  * the others are those of the value, which is kept. Otherwise they return SCALEVIEW_NO_HANDLE. */
 uint32_t scaleview_taken(scaleview_session *session, scaleview_answer *answer);

@@ -95,6 +95,9 @@ struct limits {
     std::uint64_t memory = 0;
 };
 
+/* Whether values of bit sequences are read, where the store and the order are known (SCALEVIEW_BITS), or all rejected. */
+enum class bit_sequences { rejected, read };
+
 /* A field of a composite or of an arm, or a member of a tuple. */
 struct field {
     std::string_view name;
@@ -137,7 +140,7 @@ struct value {
     std::vector<node> nodes;
     std::vector<std::uint8_t> pool;
 
-    /* The bytes of a text, a byte run or a 256-bit integer; none for other nodes. */
+    /* The bytes of a text, a byte run or a 256-bit integer; none for other nodes. See registry::bits for a bit sequence. */
     bytes_view bytes(const node &one) const {
         const bool has_bytes = one.kind >= SCALEVIEW_NODE_TEXT && one.kind <= SCALEVIEW_NODE_WIDE;
         const auto none = bytes_view(pool).sub(pool.size(), 0);
@@ -154,7 +157,8 @@ struct value {
     /* The position after a node and all that belongs to it. */
     std::size_t after(std::size_t position) const {
         const auto &one = nodes.at(position);
-        return position + (one.kind < SCALEVIEW_NODE_FIELDS ? 1 : static_cast<std::size_t>(one.low));
+        const bool is_branch = one.kind >= SCALEVIEW_NODE_FIELDS && one.kind <= SCALEVIEW_NODE_LIST;
+        return position + (is_branch ? static_cast<std::size_t>(one.low) : 1);
     }
 
     /* The positions of the children of a node. */
@@ -209,8 +213,8 @@ struct open_registry {
     scaleview_registry handle = {nullptr};
     scaleview_answer answer = {};
 
-    open_registry(bytes_view bytes, bool metadata) {
-        scaleview_open(bytes.data(), bytes.size(), metadata, &handle, &answer);
+    open_registry(bytes_view bytes, std::uint32_t flags) {
+        scaleview_open(bytes.data(), bytes.size(), flags, &handle, &answer);
         expect_ok(answer, 0);
     }
     open_registry(const open_registry &) = delete;
@@ -286,13 +290,17 @@ class session {
 class registry {
   public:
     /* Opens a chain's metadata if the bytes begin with its four letters, and otherwise a registry alone. */
-    static registry open(bytes_view bytes) {
+    static registry open(bytes_view bytes, bit_sequences bits = bit_sequences::rejected) {
         const auto front = bytes.sub(0, 4);
         const auto letters = std::string_view(reinterpret_cast<const char *>(front.data()), front.size());
-        return registry(bytes, letters == "meta");
+        return letters == "meta" ? open_metadata(bytes, bits) : open_raw(bytes, bits);
     }
-    static registry open_raw(bytes_view bytes) { return registry(bytes, false); }
-    static registry open_metadata(bytes_view bytes) { return registry(bytes, true); }
+    static registry open_raw(bytes_view bytes, bit_sequences bits = bit_sequences::rejected) {
+        return registry(bytes, 0, bits);
+    }
+    static registry open_metadata(bytes_view bytes, bit_sequences bits = bit_sequences::rejected) {
+        return registry(bytes, SCALEVIEW_METADATA, bits);
+    }
 
     registry(registry &&) noexcept = default;
     registry &operator=(registry &&) noexcept = default;
@@ -365,7 +373,27 @@ class registry {
             });
     }
 
-    /* Encodes nodes, which a program may have made: their types are not read. */
+    /* The bits of a bit sequence that this registry decoded; none for other nodes. */
+    std::vector<bool> bits(const value &from, const node &one) const {
+        std::vector<bool> found;
+        if (one.kind != SCALEVIEW_NODE_BITS) return found;
+        const auto shape = type(one.type);
+        const auto word = type(shape.element).primitive;
+        if (word < SCALEVIEW_U8 || word > SCALEVIEW_U64) return found;
+        const auto width = std::uint64_t{8} << (word - SCALEVIEW_U8), words = one.high / width + (one.high % width > 0);
+        const auto order = path(shape.order);
+        const bool is_msb = order.size() >= 4 && order.compare(order.size() - 4, 4, "Msb0") == 0;
+        if (one.low > from.pool.size() || words * (width / 8) > from.pool.size() - one.low) return found;
+        found.reserve(static_cast<std::size_t>(one.high));
+        for (std::uint64_t i = 0; i < one.high; i++) {
+            const auto in_word = is_msb ? width - 1 - i % width : i % width;
+            const auto place = one.low + i / width * (width / 8) + in_word / 8;
+            found.push_back(from.pool[static_cast<std::size_t>(place)] >> in_word % 8 & 1);
+        }
+        return found;
+    }
+
+    /* Encodes nodes, which a program may have made: only the types of bit sequences are read. */
     std::vector<std::uint8_t> encode(std::uint32_t id, const value &from, const limits &within = {}) const {
         const auto guess = 8 * few(from.nodes.size()) + few(from.pool.size());
         return detail::written<std::vector<std::uint8_t>>(
@@ -379,7 +407,9 @@ class registry {
     session start(std::uint32_t id, const limits &within = {}) { return session(open_, handle(), id, within); }
 
   private:
-    registry(bytes_view bytes, bool metadata) : open_(std::make_shared<detail::open_registry>(bytes, metadata)) {}
+    registry(bytes_view bytes, std::uint32_t flags, bit_sequences bits)
+        : open_(std::make_shared<detail::open_registry>(
+              bytes, flags | (bits == bit_sequences::read ? std::uint32_t{SCALEVIEW_BITS} : 0))) {}
 
     /* The handle; a registry that was moved away has none, which the library's calls answer. */
     scaleview_registry handle() const { return open_ ? open_->handle : scaleview_registry{nullptr}; }

@@ -84,7 +84,7 @@ static void put_arms(uint32_t depth, enum names names) {
 static bool opens(void) {
     scaleview_registry registry = {NULL};
     scaleview_answer answer;
-    uint32_t code = scaleview_open(value.registry_bytes.at, value.registry_bytes.length, false, &registry, &answer);
+    uint32_t code = scaleview_open(value.registry_bytes.at, value.registry_bytes.length, 0, &registry, &answer);
     return code == SCALEVIEW_OK && scaleview_close(&registry) == SCALEVIEW_OK;
 }
 
@@ -219,7 +219,7 @@ static void measure(const struct shape *shape, uint16_t depth, size_t enough) {
     scaleview_answer answer;
     value.depth = depth;
     shape->put(depth, shape->names);
-    check("opened", scaleview_open(value.registry_bytes.at, value.registry_bytes.length, false, &value.registry, &answer) ==
+    check("opened", scaleview_open(value.registry_bytes.at, value.registry_bytes.length, 0, &value.registry, &answer) ==
                         SCALEVIEW_OK);
     check("its nodes", decodes_nodes() && value.count > depth);
     size_t for_text = needed_by_all(texts, sizeof texts / sizeof *texts);

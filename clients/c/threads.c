@@ -97,7 +97,7 @@ int main(int count, char **words) {
     scaleview_answer answer;
     pthread_t threads[THREADS];
     int failures = 0;
-    if (scaleview_open(registry_bytes, registry_length, false, &registry, &answer) != SCALEVIEW_OK) return 3;
+    if (scaleview_open(registry_bytes, registry_length, 0, &registry, &answer) != SCALEVIEW_OK) return 3;
     if (!make(&first)) return 3;
     pthread_barrier_init(&begun, NULL, THREADS);
     for (int i = 0; i < THREADS; i++)

@@ -32,7 +32,7 @@ static const uint8_t registry_bytes[] = {
 static scaleview_registry opened(void) {
     scaleview_registry registry = {NULL};
     scaleview_answer answer;
-    check("opened", scaleview_open(registry_bytes, sizeof registry_bytes, false, &registry, &answer) == SCALEVIEW_OK);
+    check("opened", scaleview_open(registry_bytes, sizeof registry_bytes, 0, &registry, &answer) == SCALEVIEW_OK);
     check("ten types", answer.length == 10);
     return registry;
 }

@@ -104,6 +104,23 @@ static void check_small() {
     check("its text", session.finish_json() == "\"yes\"");
 }
 
+/* A bit sequence in words of u16, where bits are read, and its bits in order. */
+static void check_bits() {
+    static const std::uint8_t types[] = {12, 0, 0, 0, 7, 4, 8, 0, 4, 0, 0, 5, 4, 0, 8, 4, 16, 'M', 's', 'b', '0', 0, 0, 0, 0};
+    const scaleview::bytes_view bytes(types, sizeof types);
+    const std::vector<std::uint8_t> nine{0x24, 0, 0x92}, unused{0x24, 1, 0x92};
+    const auto without = scaleview::registry::open(bytes);
+    check("bits are rejected", thrown([&] { without.decode(0, nine); }, 0) == "value: BitSequence at 0");
+    const auto registry = scaleview::registry::open(bytes, scaleview::bit_sequences::read);
+    check("the text of bits", registry.decode_json(0, nine) == "\"0b100100100\"");
+    auto value = registry.decode(0, nine);
+    check("bits", registry.bits(value, value.nodes.at(0)) == std::vector<bool>{1, 0, 0, 1, 0, 0, 1, 0, 0});
+    check("bits encoded again", value.after(0) == 1 && registry.encode(0, value) == nine);
+    check("an unused bit", thrown([&] { registry.decode(0, unused); }, 1) == "value: UnusedBits at 1");
+    value.pool.pop_back();
+    check("bits without their words", registry.bits(value, value.nodes.at(0)).empty() && registry.bits(value, {}).empty());
+}
+
 int main(int count, char **words) {
     if (count != 5) return 2;
     check("the version", scaleview_version() == SCALEVIEW_VERSION);
@@ -118,5 +135,6 @@ int main(int count, char **words) {
     check_fields(registry, *type, registry.decode(*type, bytes));
     check_arms(registry);
     check_small();
+    check_bits();
     return failures > 0;
 }

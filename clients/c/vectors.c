@@ -1,7 +1,8 @@
 /* Checks the tables of test vectors: each registry's answer and type lines, and each value whole and in pieces of 1, 7 and
- * 4096 bytes, with what a session holds, as nodes by one call and by a session, and back from its nodes.
+ * 4096 bytes, with what a session holds, as nodes by one call and by a session, and back from its nodes. The values of the
+ * last table are read with bits.
  *
- *   vectors registries.tsv values.tsv
+ *   vectors registries.tsv values.tsv bits.tsv
  */
 #include "node_json.h"
 #include "scaleview.h"
@@ -178,9 +179,10 @@ static void check_registry(struct text row[COLUMNS], uint8_t *out) {
     char wanted[128], found[128];
     size_t length;
     uint8_t *bytes = bytes_of(row[2], &length);
+    uint32_t flags = equal(row[1], text_of("metadata")) ? SCALEVIEW_METADATA : 0;
     scaleview_registry registry = {NULL};
     scaleview_answer answer;
-    uint32_t code = scaleview_open(bytes, length, equal(row[1], text_of("metadata")), &registry, &answer);
+    uint32_t code = scaleview_open(bytes, length, flags, &registry, &answer);
     rows++;
     check(row[0], "open", registry_refusal(row, length, wanted), code == SCALEVIEW_OK ? text_of("") : told(answer, found));
     if (code == SCALEVIEW_OK) {
@@ -330,23 +332,28 @@ static void check_pieces(const struct value *value, size_t step, uint8_t *out) {
     scaleview_free(&session);
 }
 
-/* The registry of that name, which is open as the caller closes it. */
-static scaleview_registry registry_named(struct text table, struct text name) {
-    struct text row[COLUMNS];
+/* The registry of these bytes, which the caller closes. */
+static scaleview_registry registry_of(struct text column, uint32_t flags) {
     scaleview_registry registry = {NULL};
     scaleview_answer answer;
-    while (next_row(&table, row)) {
-        if (!equal(row[0], name)) continue;
-        size_t length;
-        uint8_t *bytes = bytes_of(row[2], &length);
-        scaleview_open(bytes, length, false, &registry, &answer);
-        free(bytes);
-        break;
-    }
+    size_t length;
+    uint8_t *bytes = bytes_of(column, &length);
+    scaleview_open(bytes, length, flags, &registry, &answer);
+    free(bytes);
     return registry;
 }
 
-static void check_value(struct text registries, struct text row[COLUMNS], uint8_t *out) {
+/* The registry of that name, which the caller closes. */
+static scaleview_registry registry_named(struct text table, struct text name) {
+    struct text row[COLUMNS];
+    while (next_row(&table, row)) {
+        if (equal(row[0], name)) return registry_of(row[2], 0);
+    }
+    return (scaleview_registry){NULL};
+}
+
+/* Checks a value's row, and closes its registry. */
+static void check_value(scaleview_registry registry, struct text row[COLUMNS], uint8_t *out) {
     struct value value = {.name = row[0], .answer = row[6], .json = row[10]};
     value.type = (uint32_t)number_of(row[2]);
     value.depth = (uint16_t)number_of(row[3]);
@@ -355,7 +362,7 @@ static void check_value(struct text registries, struct text row[COLUMNS], uint8_
     value.nodes = number_of(row[8]);
     value.texts = number_of(row[9]);
     value.bytes = bytes_of(row[5], &value.length);
-    value.registry = registry_named(registries, row[1]);
+    value.registry = registry;
     rows++;
     check_whole(&value, out);
     check_nodes(&value, out);
@@ -366,19 +373,37 @@ static void check_value(struct text registries, struct text row[COLUMNS], uint8_
     free(value.bytes);
 }
 
+/* A registry has the same types whether its bits are read or not. */
+static void check_types(struct text row[COLUMNS], uint8_t *out) {
+    scaleview_registry without = registry_of(row[1], 0), with = registry_of(row[1], SCALEVIEW_BITS);
+    struct text wanted = lines_of(without, out), found = lines_of(with, out);
+    check(row[0], "types with bits", wanted, found);
+    free((char *)wanted.at);
+    free((char *)found.at);
+    scaleview_close(&without);
+    scaleview_close(&with);
+}
+
 int main(int count, char **words) {
-    if (count != 3) {
-        fprintf(stderr, "usage: vectors registries.tsv values.tsv\n");
+    if (count != 4) {
+        fprintf(stderr, "usage: vectors registries.tsv values.tsv bits.tsv\n");
         return 2;
     }
-    struct text registries = read_file(words[1]), values = read_file(words[2]), table = registries, row[COLUMNS];
+    struct text registries = read_file(words[1]), values = read_file(words[2]), bits = read_file(words[3]);
+    struct text table = registries, row[COLUMNS];
     uint8_t *out = allocated(malloc(TEXT_ROOM));
     while (next_row(&table, row)) check_registry(row, out);
     table = values;
-    while (next_row(&table, row)) check_value(registries, row, out);
+    while (next_row(&table, row)) check_value(registry_named(registries, row[1]), row, out);
+    table = bits;
+    while (next_row(&table, row)) {
+        check_types(row, out);
+        check_value(registry_of(row[1], SCALEVIEW_BITS), row, out);
+    }
     printf("c: %u rows in %u ways, %u wrong\n", rows, ways, wrong);
     free(out);
     free((char *)registries.at);
     free((char *)values.at);
+    free((char *)bits.at);
     return wrong > 0;
 }

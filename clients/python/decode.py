@@ -1,7 +1,7 @@
 """Decodes a value as the command does, whole or in pieces, or lists the types of a registry.
 
 python3 decode.py types FILE [--metadata]
-python3 decode.py decode FILE ID VALUEFILE [--metadata] [--hex] [--depth D] [--pieces N]
+python3 decode.py decode FILE ID VALUEFILE [--metadata] [--bits] [--hex] [--depth D] [--pieces N]
 """
 
 import argparse
@@ -23,6 +23,7 @@ def parse() -> argparse.Namespace:
         command.add_argument("--metadata", action="store_true")
     decode.add_argument("id", type=int)
     decode.add_argument("value", type=pathlib.Path)
+    decode.add_argument("--bits", action="store_true")
     decode.add_argument("--hex", action="store_true")
     decode.add_argument("--depth", type=int, default=DEPTH)
     decode.add_argument("--pieces", type=int)
@@ -67,7 +68,8 @@ def decode_in_pieces(registry: Registry, type_id: int, value: bytes, depth: int,
 def run(words: argparse.Namespace) -> None:
     data = read(words.file)
     value = b"" if words.command == "types" else read(words.value)
-    registry = Registry(data, metadata=words.metadata)
+    bits = words.command == "decode" and words.bits
+    registry = Registry(data, metadata=words.metadata, bits=bits)
     if words.command == "types":
         print("".join(f"{found}\n" for found in registry.types), end="")
         return

@@ -220,7 +220,7 @@ static PyObject *decoder_enter(PyObject *self, PyObject *unused) {
 static PyGetSetDef getters[] = {
     {"taken", get_taken, NULL, "The number of bytes of all pieces that were taken.", NULL},
     {"nodes", get_nodes, NULL, "The number of nodes of the value that are held.", NULL},
-    {"text_bytes", get_text_bytes, NULL, "The number of bytes of texts and byte runs that are held.", NULL},
+    {"text_bytes", get_text_bytes, NULL, "The number of bytes of texts, byte runs and bit sequences that are held.", NULL},
     {"closed", get_closed, NULL, "Whether the decoder is closed.", NULL},
     {0},
 };

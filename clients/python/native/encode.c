@@ -95,21 +95,45 @@ static int add_node(struct writer *writer, scaleview_node node) {
     return 0;
 }
 
+/* Makes room for the bytes of one more node in the pool. */
+static int make_pool_room(struct writer *writer, size_t length) {
+    if (check_budget(writer, 1, length) < 0) return -1;
+    if (writer->pool_room - writer->length >= length) return 0;
+    size_t room = 2 * writer->pool_room + length + 64;
+    uint8_t *pool = realloc(writer->pool, room);
+    if (!pool) {
+        PyErr_NoMemory();
+        return -1;
+    }
+    writer->pool = pool;
+    writer->pool_room = room;
+    return 0;
+}
+
 /* Adds a node whose bytes stand in the pool. */
 static int add_bytes(struct writer *writer, uint32_t kind, uint32_t type, const void *bytes, size_t length) {
-    if (check_budget(writer, 1, length) < 0) return -1;
-    if (writer->pool_room - writer->length < length) {
-        size_t room = 2 * writer->pool_room + length + 64;
-        uint8_t *pool = realloc(writer->pool, room);
-        if (!pool) {
-            PyErr_NoMemory();
-            return -1;
-        }
-        writer->pool = pool;
-        writer->pool_room = room;
-    }
+    if (make_pool_room(writer, length) < 0) return -1;
     if (length > 0) memcpy(writer->pool + writer->length, bytes, length);
     scaleview_node node = {kind, type, 0, 0, writer->length, length};
+    writer->length += length;
+    return add_node(writer, node);
+}
+
+/* Sets the bits of words that are 0. There is a byte for each bit. */
+static void gather_bits(struct bit_form form, const char *bits, size_t count, uint8_t *words) {
+    for (size_t bit = 0; bit < count; bit++) {
+        uint64_t place = place_of_bit(form, bit);
+        words[place / 8] |= (uint8_t)((bits[bit] != 0) << place % 8);
+    }
+}
+
+/* Adds the node of a bit sequence, of a byte for each bit. */
+static int add_bits(struct writer *writer, uint32_t type, struct bit_form form, const char *bits, size_t count) {
+    size_t length = (size_t)bytes_of_bits(form, count);
+    if (make_pool_room(writer, length) < 0) return -1;
+    if (length > 0) memset(writer->pool + writer->length, 0, length);
+    gather_bits(form, bits, count, writer->pool + writer->length);
+    scaleview_node node = {SCALEVIEW_NODE_BITS, type, 0, 0, writer->length, count};
     writer->length += length;
     return add_node(writer, node);
 }
@@ -237,21 +261,26 @@ static int put_byte_run(struct writer *writer, uint32_t type, const struct type_
     return code;
 }
 
-/* Copies a sequence's items to a list, unless as many nodes would exceed the budget. */
-static PyObject *copied_items(const struct writer *writer, PyObject *value) {
+/* What the items of a sequence become, which says what they take at least. */
+enum items { AS_NODES, AS_BITS };
+
+/* Copies a sequence's items to a list, unless as many nodes or bits would exceed the budget. */
+static PyObject *copied_items(const struct writer *writer, PyObject *value, enum items become) {
     Py_ssize_t length = PySequence_Size(value);
-    return length < 0 || check_budget(writer, (size_t)length, 0) < 0 ? NULL : PySequence_List(value);
+    if (length < 0) return NULL;
+    size_t nodes = become == AS_NODES ? (size_t)length : 1, bytes = become == AS_BITS ? (size_t)length / 8 : 0;
+    return check_budget(writer, nodes, bytes) < 0 ? NULL : PySequence_List(value);
 }
 
 /* Returns a list or a tuple of a value's items, or NULL. */
-static PyObject *items_of(const struct writer *writer, PyObject *value, Py_ssize_t *length) {
+static PyObject *items_of(const struct writer *writer, PyObject *value, enum items become, Py_ssize_t *length) {
     PyObject *items;
     if (PyList_Check(value) || PyTuple_Check(value)) {
         items = new_ref(value);
     } else if (PySequence_Check(value) && !PyUnicode_Check(value) && !PyBytes_Check(value) && !PyByteArray_Check(value)) {
-        items = copied_items(writer, value);
+        items = copied_items(writer, value, become);
     } else {
-        expected(writer, "a list or a tuple", value);
+        expected(writer, become == AS_BITS ? "a Bits or a list of bool" : "a list or a tuple", value);
         return NULL;
     }
     if (!items) return NULL;
@@ -274,7 +303,7 @@ static int put_count(struct writer *writer, uint32_t type, PyObject *value) {
         if (code < 0) return -1;
     } else {
         Py_ssize_t length;
-        PyObject *items = items_of(writer, value, &length);
+        PyObject *items = items_of(writer, value, AS_NODES, &length);
         if (!items) return -1;
         for (Py_ssize_t i = 0; i < length; i++) {
             PyObject *item = PyList_Check(items) ? PyList_GetItem(items, i) : PyTuple_GetItem(items, i);
@@ -290,6 +319,51 @@ static int put_count(struct writer *writer, uint32_t type, PyObject *value) {
     return add_node(writer, (scaleview_node){SCALEVIEW_NODE_COUNT, type, 0, 0, count, 0});
 }
 
+/* Raises that an item of a sequence of bits, whose reference this takes, isn't a bool. */
+static int fail_bit(struct writer *writer, PyObject *items, Py_ssize_t at) {
+    struct level level = {items, NULL, NULL, (uint32_t)at + 1, (uint32_t)at + 1, 0};
+    if (push_level(writer, level) < 0) return -1;
+    PyObject *item = PyList_Check(items) ? PyList_GetItem(items, at) : PyTuple_GetItem(items, at);
+    return item ? expected(writer, "a bool", item) : fail(writer, PyExc_ValueError, "the list got shorter meanwhile");
+}
+
+/* Returns bytes of a sequence of bool, one for each, or NULL. */
+static PyObject *bytes_of_bools(struct writer *writer, PyObject *value) {
+    Py_ssize_t length;
+    PyObject *items = items_of(writer, value, AS_BITS, &length);
+    PyObject *bits = items ? PyBytes_FromStringAndSize(NULL, length) : NULL;
+    char *at = bits ? PyBytes_AsString(bits) : NULL;
+    for (Py_ssize_t i = 0; bits && i < length; i++) {
+        PyObject *item = PyList_Check(items) ? PyList_GetItem(items, i) : PyTuple_GetItem(items, i);
+        if (item && PyBool_Check(item)) {
+            at[i] = item == Py_True;
+            continue;
+        }
+        Py_DECREF(bits);
+        fail_bit(writer, items, i);
+        return NULL;
+    }
+    Py_XDECREF(items);
+    return bits;
+}
+
+/* A bit sequence: a Bits, or another sequence of bool. */
+static int put_bits(struct writer *writer, uint32_t type, struct bit_form form, PyObject *value) {
+    int is_bits = PyObject_IsInstance(value, writer->shared->state->bits_class);
+    if (is_bits < 0) return -1;
+    PyObject *bits = is_bits ? PyObject_GetAttrString(value, "_bits") : bytes_of_bools(writer, value);
+    if (!bits) return -1;
+    int code;
+    if (!PyBytes_Check(bits))
+        code = expected(writer, "bytes in a Bits", bits);
+    else if ((unsigned long long)PyBytes_Size(bits) > UINT32_MAX)
+        code = fail(writer, PyExc_OverflowError, "%zd items are too many", PyBytes_Size(bits));
+    else
+        code = add_bits(writer, type, form, PyBytes_AsString(bits), (size_t)PyBytes_Size(bits));
+    Py_DECREF(bits);
+    return code;
+}
+
 static int put_list(struct writer *writer, uint32_t type, const struct type_info *info, PyObject *value) {
     const struct type_info *element = info_of(writer->shared, info->shape.element);
     Py_ssize_t length;
@@ -297,7 +371,7 @@ static int put_list(struct writer *writer, uint32_t type, const struct type_info
     if (element->shape.kind == SCALEVIEW_PRIMITIVE && element->shape.primitive == SCALEVIEW_U8)
         return put_byte_run(writer, type, info, value);
     if (element->shape.value_class == SCALEVIEW_EMPTY) return put_count(writer, type, value);
-    PyObject *items = items_of(writer, value, &length);
+    PyObject *items = items_of(writer, value, AS_NODES, &length);
     if (!items) return -1;
     if (info->shape.kind == SCALEVIEW_ARRAY && length != (Py_ssize_t)info->shape.length) {
         Py_DECREF(items);
@@ -341,7 +415,7 @@ static int put_fields(struct writer *writer, scaleview_node node, const struct f
     } else {
         Py_ssize_t length = 0;
         bool is_nothing = fields->count == 0 && PyDict_Check(value) && PyDict_Size(value) == 0;
-        source = is_nothing ? new_ref(value) : items_of(writer, value, &length);
+        source = is_nothing ? new_ref(value) : items_of(writer, value, AS_NODES, &length);
         if (!source) return -1;
         if (length != (Py_ssize_t)fields->count) {
             Py_DECREF(source);
@@ -444,7 +518,9 @@ static int put_value(struct writer *writer, uint32_t type, PyObject *value) {
     case SCALEVIEW_COMPOSITE:
     case SCALEVIEW_TUPLE:
         return put_fields(writer, (scaleview_node){SCALEVIEW_NODE_FIELDS, type, 0, 0, 0, 0}, &info->fields, NULL, value);
-    default: return add_node(writer, leaf); /* a bit sequence, which the library rejects */
+    default:
+        if (info->form.width > 0) return put_bits(writer, type, info->form, value);
+        return add_node(writer, leaf); /* a bit sequence that the library rejects */
     }
 }
 
@@ -500,7 +576,7 @@ static void raise_rejected(struct writer *writer, const scaleview_answer *answer
         while (writer->depth > 0 && writer->levels[writer->depth - 1].at == writer->levels[writer->depth - 1].count)
             writer->depth--;
         if (writer->depth > 0) writer->levels[writer->depth - 1].at++;
-        if (i == answer->at || node->kind < SCALEVIEW_NODE_FIELDS) continue;
+        if (i == answer->at || is_leaf(node)) continue;
         struct level level = {NULL, NULL, NULL, 0, node->children, 0};
         if (node->kind != SCALEVIEW_NODE_LIST) {
             const struct type_info *info = info_of(writer->shared, node->type);

@@ -8,9 +8,10 @@ int import_classes(struct state *state) {
     state->encode_error_class = PyObject_GetAttrString(module, "EncodeError");
     state->out_of_memory_class = PyObject_GetAttrString(module, "OutOfMemory");
     state->empties_class = PyObject_GetAttrString(module, "Empties");
+    state->bits_class = PyObject_GetAttrString(module, "Bits");
     Py_DECREF(module);
     bool has_errors = state->refused_class && state->encode_error_class && state->out_of_memory_class;
-    return has_errors && state->empties_class ? 0 : -1;
+    return has_errors && state->empties_class && state->bits_class ? 0 : -1;
 }
 
 PyObject *reason_of(uint32_t code) {

@@ -63,6 +63,7 @@ static int traverse(PyObject *module, visitproc visit, void *arg) {
     Py_VISIT(state->encode_error_class);
     Py_VISIT(state->out_of_memory_class);
     Py_VISIT(state->empties_class);
+    Py_VISIT(state->bits_class);
     Py_VISIT(state->variant_class);
     Py_VISIT(state->registry_class);
     Py_VISIT(state->decoder_class);
@@ -76,6 +77,7 @@ static int clear(PyObject *module) {
     Py_CLEAR(state->encode_error_class);
     Py_CLEAR(state->out_of_memory_class);
     Py_CLEAR(state->empties_class);
+    Py_CLEAR(state->bits_class);
     Py_CLEAR(state->variant_class);
     Py_CLEAR(state->registry_class);
     Py_CLEAR(state->decoder_class);

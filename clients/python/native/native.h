@@ -28,7 +28,7 @@ enum {
 
 /* The state of a module: the classes of its interpreter. */
 struct state {
-    PyObject *refused_class, *encode_error_class, *out_of_memory_class, *empties_class;
+    PyObject *refused_class, *encode_error_class, *out_of_memory_class, *empties_class, *bits_class;
     PyTypeObject *variant_class, *registry_class, *decoder_class;
 };
 
@@ -48,6 +48,12 @@ struct arm {
     struct fields fields;
 };
 
+/* Where the bits of a bit sequence stand in its words. */
+struct bit_form {
+    uint32_t width; /* the number of a word's bits, or 0 if the registry doesn't read the values */
+    bool is_msb0;   /* the first bit of a word is the one of the highest value */
+};
+
 /* What the registry says about a type, read when it is first asked for. */
 struct type_info {
     scaleview_type_shape shape;
@@ -56,6 +62,7 @@ struct type_info {
     PyObject *arm_positions; /* a dict by name of the first arms that aren't shadowed */
     uint32_t *arms_by_index; /* of a variant, the position of the first arm of each index, or NO_ARM */
     uint32_t target;         /* the primitive that a compact wraps, or NO_TARGET */
+    struct bit_form form;    /* of a bit sequence */
 };
 
 #define NO_TARGET UINT32_MAX
@@ -89,6 +96,7 @@ struct shared {
     const struct state *state;
     size_t references;
     uint32_t count, version;
+    bool has_bits; /* it reads values of bit sequences */
     uint64_t end;
     struct type_info **infos; /* one for each type, or NULL */
     struct scratch scratch;
@@ -105,6 +113,22 @@ struct shared {
 static inline PyObject *new_ref(PyObject *object) {
     Py_INCREF(object);
     return object;
+}
+
+/* Whether a node has no children of its own. */
+static inline bool is_leaf(const scaleview_node *node) {
+    return node->kind < SCALEVIEW_NODE_FIELDS || node->kind == SCALEVIEW_NODE_BITS;
+}
+
+/* The number of bytes of the words of so many bits. */
+static inline uint64_t bytes_of_bits(struct bit_form form, uint64_t count) {
+    return form.width / 8 * ((count + form.width - 1) / form.width);
+}
+
+/* The place of a bit in the bytes of the words, eight for each. The lowest byte of a word is the first, so with Lsb0 the
+ * width makes no difference. With Msb0 the bits of a word are reversed: their number is a power of two. */
+static inline uint64_t place_of_bit(struct bit_form form, uint64_t bit) {
+    return form.is_msb0 ? bit ^ (form.width - 1) : bit;
 }
 
 /* The depth and the limits of a call. */
@@ -134,7 +158,7 @@ struct input {
 };
 
 /* shared.c: registries, turns and memory. */
-struct shared *open_shared(PyObject *module, const uint8_t *bytes, size_t length, bool metadata);
+struct shared *open_shared(PyObject *module, const uint8_t *bytes, size_t length, uint32_t flags);
 struct shared *retain(struct shared *shared);
 void release(struct shared *shared);
 void enter(struct shared *shared, bool writes);

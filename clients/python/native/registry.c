@@ -15,16 +15,18 @@ struct shared *shared_of(PyObject *registry) {
 }
 
 static PyObject *registry_new(PyTypeObject *class, PyObject *args, PyObject *keywords) {
-    static char *names[] = {"data", "metadata", NULL};
+    static char *names[] = {"data", "metadata", "bits", NULL};
     PyObject *data, *metadata = Py_None;
+    int has_bits = 0;
     const uint8_t *bytes;
     size_t length;
-    if (!PyArg_ParseTupleAndKeywords(args, keywords, "O|$O:Registry", names, &data, &metadata)) return NULL;
+    if (!PyArg_ParseTupleAndKeywords(args, keywords, "O|$Op:Registry", names, &data, &metadata, &has_bits)) return NULL;
     PyObject *kept = bytes_of(data, &bytes, &length);
     if (!kept) return NULL;
     int is_metadata = metadata == Py_None ? length >= 4 && !memcmp(bytes, "meta", 4) : PyObject_IsTrue(metadata);
     PyObject *module = is_metadata < 0 ? NULL : module_of(class);
-    struct shared *shared = module ? open_shared(module, bytes, length, is_metadata) : NULL;
+    uint32_t flags = (is_metadata ? SCALEVIEW_METADATA : 0) | (has_bits ? SCALEVIEW_BITS : 0);
+    struct shared *shared = module ? open_shared(module, bytes, length, flags) : NULL;
     Py_XDECREF(module);
     Py_DECREF(kept);
     if (!shared) return NULL;
@@ -357,8 +359,8 @@ static PyMethodDef methods[] = {
      "encode($self, /, type, value, *, depth=64, memory=...)\n--\n\n"
      "Returns the bytes of a value, which `decode` turns into an equal value.\n\n"
      "A dict's fields may stand in any order. For a Variant, a pair of its name and fields is accepted; for\n"
-     "bytes, any object with a buffer; for a list or a tuple, the other one or another sequence. If `memory`\n"
-     "isn't given, it is that of `decode` for 16 MiB.\n\n"
+     "bytes, any object with a buffer; for a list or a tuple, the other one or another sequence; for a Bits,\n"
+     "any sequence of bool. If `memory` isn't given, it is that of `decode` for 16 MiB.\n\n"
      "Raises:\n"
      "    TypeError, ValueError, OverflowError: The value isn't one of the type; the text begins with the path\n"
      "        of the wrong part.\n"
@@ -382,7 +384,7 @@ static PyMethodDef methods[] = {
 };
 
 static PyType_Slot slots[] = {
-    {Py_tp_doc, "Registry(data, *, metadata=None)\n--\n\nThe part of a registry that is written in C."},
+    {Py_tp_doc, "Registry(data, *, metadata=None, bits=False)\n--\n\nThe part of a registry that is written in C."},
     {Py_tp_new, registry_new},
     {Py_tp_dealloc, registry_dealloc},
     {Py_tp_methods, methods},

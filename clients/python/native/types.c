@@ -201,6 +201,38 @@ static int read_target(struct shared *shared, struct type_info *info) {
     return 0;
 }
 
+static bool is_last_segment(const char *path, size_t length, const char *segment) {
+    size_t its = strlen(segment);
+    if (length < its || memcmp(path + length - its, segment, its)) return false;
+    return length == its || (length >= its + 2 && !memcmp(path + length - its - 2, "::", 2));
+}
+
+/* Reads the order of a bit sequence of this width. Of another order the form stays 0. */
+static int read_order(struct shared *shared, uint32_t order, uint32_t width, struct bit_form *form) {
+    scaleview_type_shape shape;
+    if (read_shape(shared, order, &shape) != SCALEVIEW_OK) return -1;
+    if (shape.kind != SCALEVIEW_COMPOSITE || shape.parts > 0) return 0;
+    PyObject *text = path_of(shared, order), *bytes = text ? PyUnicode_AsUTF8String(text) : NULL;
+    Py_XDECREF(text);
+    if (!bytes) return -1;
+    const char *path = PyBytes_AsString(bytes);
+    size_t length = (size_t)PyBytes_Size(bytes);
+    form->is_msb0 = is_last_segment(path, length, "Msb0");
+    if (form->is_msb0 || is_last_segment(path, length, "Lsb0")) form->width = width;
+    Py_DECREF(bytes);
+    return 0;
+}
+
+/* Reads where the bits of a bit sequence stand, if the library reads its values. Its store and its order need not exist. */
+static int read_bit_form(struct shared *shared, struct type_info *info) {
+    uint32_t store = info->shape.element, order = info->shape.order;
+    scaleview_type_shape shape;
+    if (!shared->has_bits || store >= shared->count || order >= shared->count) return 0;
+    if (read_shape(shared, store, &shape) != SCALEVIEW_OK) return -1;
+    if (shape.kind != SCALEVIEW_PRIMITIVE || shape.primitive < SCALEVIEW_U8 || shape.primitive > SCALEVIEW_U64) return 0;
+    return read_order(shared, order, 8u << (shape.primitive - SCALEVIEW_U8), &info->form);
+}
+
 static int read_info(struct shared *shared, uint32_t type, struct type_info *info) {
     info->target = NO_TARGET;
     if (read_shape(shared, type, &info->shape) != SCALEVIEW_OK) return -1;
@@ -210,6 +242,7 @@ static int read_info(struct shared *shared, uint32_t type, struct type_info *inf
         return read_fields((struct text_of){read_part, shared, type, 0, 0}, info->shape.parts, &info->fields);
     case SCALEVIEW_VARIANT: return read_arms(shared, type, info);
     case SCALEVIEW_COMPACT: return read_target(shared, info);
+    case SCALEVIEW_BIT_SEQUENCE: return read_bit_form(shared, info);
     default: return 0;
     }
 }

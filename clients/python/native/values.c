@@ -59,6 +59,25 @@ static const char *bytes_at(const struct reader *reader, const scaleview_node *n
     return (const char *)reader->pool + node->low;
 }
 
+/* Writes a byte, 0 or 1, for each bit of these words. */
+static void spread_bits(struct bit_form form, const uint8_t *words, uint64_t count, char *out) {
+    for (uint64_t bit = 0; bit < count; bit++) {
+        uint64_t place = place_of_bit(form, bit);
+        out[bit] = words[place / 8] >> place % 8 & 1;
+    }
+}
+
+/* A Bits of a node. */
+static PyObject *bits_of(struct reader *reader, const scaleview_node *node) {
+    const struct type_info *info = info_of(reader->shared, node->type);
+    PyObject *bits = info ? PyBytes_FromStringAndSize(NULL, (Py_ssize_t)node->high) : NULL;
+    if (!bits) return NULL;
+    spread_bits(info->form, reader->pool + node->low, node->high, PyBytes_AsString(bits));
+    PyObject *made = PyObject_CallMethod(reader->shared->state->bits_class, "_of", "O", bits);
+    Py_DECREF(bits);
+    return made;
+}
+
 /* The value of a node without children. */
 static PyObject *leaf_of(struct reader *reader, const scaleview_node *node) {
     switch (node->kind) {
@@ -73,6 +92,7 @@ static PyObject *leaf_of(struct reader *reader, const scaleview_node *node) {
     case SCALEVIEW_NODE_TEXT: return PyUnicode_FromStringAndSize(bytes_at(reader, node), (Py_ssize_t)node->high);
     case SCALEVIEW_NODE_BYTES: return PyBytes_FromStringAndSize(bytes_at(reader, node), (Py_ssize_t)node->high);
     case SCALEVIEW_NODE_WIDE: return wide_of(reader, node);
+    case SCALEVIEW_NODE_BITS: return bits_of(reader, node);
     default: PyErr_Format(PyExc_SystemError, "the library made a node of the unknown kind %u", node->kind); return NULL;
     }
 }
@@ -153,7 +173,7 @@ static PyObject *read_nodes(struct reader *reader, const scaleview_node *nodes, 
         const scaleview_node *node = &nodes[i];
         PyObject *value;
         if ((i + 1) % NODES_BETWEEN_SIGNALS == 0 && PyErr_CheckSignals() < 0) return NULL;
-        if (node->kind < SCALEVIEW_NODE_FIELDS) {
+        if (is_leaf(node)) {
             value = leaf_of(reader, node);
         } else {
             struct level level;

@@ -11,7 +11,7 @@ import unittest
 from typing import Any, Callable
 
 import registries as make
-from scaleview import Decoder, Empties, Refused, Registry, Variant
+from scaleview import Bits, Decoder, Empties, Refused, Registry, Variant
 
 testing: Any = None
 with contextlib.suppress(ImportError):
@@ -43,6 +43,7 @@ class Allocations(unittest.TestCase):
         registry, small = Registry(data), Registry(
             make.registry_of(*map(make.primitive, make.PRIMITIVES), make.members(), make.sequence(15), make.sequence(8))
         )
+        bits = make.registry_of(make.primitive("u16"), make.composite(), make.bits(0, 1), _1="bitvec::Msb0")
         value = registry.decode(12, events)
         numbers = [(8, 1 << 255), (14, -(1 << 255)), (13, -(1 << 127)), (16, Empties(5)), (2, "é"), (17, [1 << 200] * 3)]
         wrong = [Variant("Transfer", {"from": (b"",), "to": 5, "amount": 1})]
@@ -57,6 +58,10 @@ class Allocations(unittest.TestCase):
             for type_id, number in numbers:
                 small.decode(type_id, small.encode(type_id, number))
 
+        def bits_there_and_back() -> None:
+            opened = Registry(bits, bits=True)
+            opened.decode(2, opened.encode(2, opened.decode(2, opened.encode(2, [True] * 100))))
+
         def in_pieces() -> None:
             decoder = Decoder(registry, 12)
             decoder.feed(bytearray(events))
@@ -68,10 +73,11 @@ class Allocations(unittest.TestCase):
                     registry.encode(type_id, bad, depth=depth)
                 except ValueError:
                     pass
-            try:
-                small.encode(16, [None, 1])
-            except TypeError:
-                pass
+            for opened, type_id, mixed in ((small, 16, [None, 1]), (Registry(bits, bits=True), 2, [True, 1])):
+                try:
+                    opened.encode(type_id, mixed)
+                except TypeError:
+                    pass
             try:
                 registry.decode(12, events[:-1])
             except Refused:
@@ -84,6 +90,8 @@ class Allocations(unittest.TestCase):
             lambda: Registry(data).decode(12, events),
             lambda: Registry(data).encode(12, value),
             there_and_back,
+            bits_there_and_back,
+            lambda: repr(Bits([True] * 100)) and Bits([True, False])[:1] == [True] and hash(Bits([False])),
             lambda: registry.decode_prefix(12, events),
             lambda: registry.decode_prefix(12, bytearray(events)),
             lambda: registry.decode_many(12, [events] * 3),

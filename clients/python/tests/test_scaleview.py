@@ -25,7 +25,7 @@ from typing import Any, Callable, Iterator, Sequence
 
 import registries as make
 import scaleview
-from scaleview import Arm, Decoder, Empties, EncodeError, Field, OutOfMemory, Refused, Registry, Type, Variant
+from scaleview import Arm, Bits, Decoder, Empties, EncodeError, Field, OutOfMemory, Refused, Registry, Type, Variant
 
 CLIENT = pathlib.Path(__file__).resolve().parents[1]
 EXAMPLES = CLIENT.parents[1] / "examples"
@@ -34,11 +34,14 @@ U32 = make.registry_of(make.primitive("u32"))
 BYTES = make.registry_of(make.primitive("u8"), make.sequence(0))
 # A variant with an arm End, and an arm Next whose one field is the variant itself.
 CHAIN = make.registry_of(make.variant(("End", 0, ()), ("Next", 1, ((None, 0),))))
+# The widths of words, by the names of their stores.
+WIDTHS = {"u8": 8, "u16": 16, "u32": 32, "u64": 64}
 NAMED_CHAIN = make.registry_of(make.variant(("End", 0, ()), ("Next", 1, (("rest", 0),))))
 
 
 def load_tests(loader: Any, tests: unittest.TestSuite, pattern: Any) -> unittest.TestSuite:
     tests.addTests(doctest.DocTestSuite(scaleview))
+    tests.addTests(doctest.DocTestSuite(scaleview._base))
     folder = os.getcwd()
     readme = doctest.DocFileSuite(
         str(CLIENT / "README.md"),
@@ -48,6 +51,27 @@ def load_tests(loader: Any, tests: unittest.TestSuite, pattern: Any) -> unittest
     )
     tests.addTests(readme)
     return tests
+
+
+def bits_of(store: str, order: str) -> bytes:
+    """A store, an order and a bit sequence of both; a composite of bits and a u8; and a list of bits."""
+    return make.registry_of(
+        make.primitive(store), make.composite(), make.bits(0, 1), make.composite(("a", 2), ("b", 5)), make.sequence(2),
+        make.primitive("u8"), _1=f"bitvec::order::{order}",
+    )
+
+
+def some_bits(count: int) -> list[bool]:
+    """So many bits without a period that is a power of two."""
+    return [bit * bit % 7 < 3 for bit in range(count)]
+
+
+def spelled(bits: list[bool], width: int, order: str) -> bytes:
+    """The bytes of bits as the format defines them."""
+    words = [0] * -(-len(bits) // width)
+    for bit, is_one in enumerate(bits):
+        words[bit // width] += is_one << (bit % width if order == "Lsb0" else width - 1 - bit % width)
+    return make.compact(len(bits)) + b"".join(word.to_bytes(width // 8, "little") for word in words)
 
 
 def examples() -> Iterator[tuple[str, Registry, int, bytes, str]]:
@@ -61,6 +85,19 @@ def examples() -> Iterator[tuple[str, Registry, int, bytes, str]]:
                 value, type_id = line.split()
                 data, text = (folder / f"{value}.scale").read_bytes(), (folder / f"{value}.json").read_text()
                 yield f"{folder.name}/{value}", registry, int(type_id), data, text.rstrip("\n")
+
+
+class Only(Sequence[Any]):
+    """A sequence that isn't a list."""
+
+    def __init__(self, items: Sequence[Any]) -> None:
+        self.items = items
+
+    def __len__(self) -> int:
+        return len(self.items)
+
+    def __getitem__(self, index: Any) -> Any:
+        return self.items[index]
 
 
 class Values(unittest.TestCase):
@@ -165,6 +202,104 @@ class Values(unittest.TestCase):
             self.assertEqual(registry.encode(1, items).hex(), "0c010203")
         self.assertEqual(registry.encode(8, [None] * 3), b"\x0c")
         self.assertEqual(len(registry.decode(8, bytes.fromhex("03ffffffff"))), (1 << 32) - 1)
+
+    def test_bit_sequences(self) -> None:
+        for store, width in WIDTHS.items():
+            for order in ("Lsb0", "Msb0"):
+                registry = Registry(bits_of(store, order), bits=True)
+                for count in (0, 1, 7, 8, 9, 15, 16, 17, 31, 32, 33, 63, 64, 65, 129, 3_000):
+                    for bits in (some_bits(count), [True] * count, [False] * count):
+                        data = spelled(bits, width, order)
+                        self.check(registry, 2, data.hex(), Bits(bits))
+                        self.assertEqual(registry.decode_json(2, data), f'"{Bits(bits)}"')
+                        for other in (bits, tuple(bits), Only(bits)):
+                            self.assertEqual(registry.encode(2, other), data)
+
+    def test_a_long_bit_sequence_is_decoded_in_pieces(self) -> None:
+        registry = Registry(bits_of("u64", "Msb0"), bits=True)
+        data = make.compact(1 << 22) + bytes(range(256)) * (1 << 11)
+        bits = registry.decode(2, data)
+        self.assertEqual((len(bits), bits.count(True)), (1 << 22, 1 << 21))
+        # The first word has the bytes 0 to 7, the highest of them last.
+        self.assertEqual(str(bits[:64]), "0b" + "".join(f"{byte:08b}" for byte in range(7, -1, -1)))
+        self.assertEqual(registry.encode(2, bits), data)
+
+    def test_bit_sequences_are_parts(self) -> None:
+        registry = Registry(bits_of("u8", "Msb0"), bits=True)
+        self.check(registry, 3, "088007", {"a": Bits([True, False]), "b": 7})
+        self.check(registry, 4, "0c 00 04 80 24 01 80", [Bits(), Bits([True]), Bits([*[False] * 7, True, True])])
+        self.assertEqual(registry.decode(4, b"\4\4\x80"), [[True]])
+        self.assertEqual(registry.encode(3, {"b": 7, "a": [True, False]}).hex(), "088007")
+        self.assertEqual(registry.decode_prefix(2, b"\4\x80\xff"), ([True], 2))
+        self.assertEqual(registry.decode_many(2, [b"\4\x80", b"\4\0"]), [[True], [False]])
+
+    def test_an_unused_bit_is_rejected_at_its_byte(self) -> None:
+        for store, width in WIDTHS.items():
+            for order in ("Lsb0", "Msb0"):
+                registry = Registry(bits_of(store, order), bits=True)
+                for count in (1, 5, 9, 33, width + 1, 2 * width - 1):
+                    data = spelled([True] * count, width, order)
+                    place = len(make.compact(count))
+                    used = int.from_bytes(data[place:], "little")
+                    for bit in range(8 * (len(data) - place)):
+                        if used >> bit & 1:
+                            continue
+                        wrong = (used | 1 << bit).to_bytes(len(data) - place, "little")
+                        with self.assertRaises(Refused) as raised:
+                            registry.decode(2, data[:place] + wrong)
+                        found = raised.exception
+                        self.assertEqual((found.code, found.reason, found.place), (314, "UnusedBits", place + bit // 8))
+        self.assertEqual(str(found), f"value: UnusedBits at {found.place}")
+
+    def check_no_bits(self, registry: Registry) -> None:
+        for call in (registry.decode, registry.decode_json):
+            with self.assertRaisesRegex(Refused, "^value: BitSequence at 0$"):
+                call(2, b"\4\1")
+        for value in (Bits([True]), [True], None, 5):
+            with self.assertRaisesRegex(EncodeError, "^value: BitSequence$"):
+                registry.encode(2, value)
+            with self.assertRaisesRegex(EncodeError, "^value.a: BitSequence$"):
+                registry.encode(3, {"a": value, "b": 0})
+
+    def test_bit_sequences_are_rejected_unless_they_are_allowed(self) -> None:
+        data = bits_of("u8", "Lsb0")
+        metadata = b"meta\x0e" + data
+        for registry in (
+            Registry(data), Registry(data, bits=False), Registry.raw(data), Registry(metadata),
+            Registry(metadata, metadata=True, bits=False),
+        ):
+            self.check_no_bits(registry)
+        for registry in (
+            Registry(data, bits=True), Registry.raw(data, bits=True), Registry(metadata, bits=True),
+            Registry(metadata, metadata=True, bits=True), Registry(data, metadata=False, bits=True),
+        ):
+            self.assertEqual(registry.decode(2, b"\4\1"), [True])
+        calls: list[Any] = [Registry, Registry.raw]
+        for call in calls:
+            with self.assertRaises(TypeError):
+                call(data, True)
+
+    def test_other_stores_and_orders_are_rejected(self) -> None:
+        for store in ("bool", "char", "str", "u128", "u256", "i8", "i64"):
+            self.check_no_bits(Registry(bits_of(store, "Lsb0"), bits=True))
+        for order in ("lsb0", "Lsb1", "xLsb0", "Lsb0x", "Msb0::x"):
+            self.check_no_bits(Registry(bits_of("u8", order), bits=True))
+        for definition in (make.composite((None, 0)), make.members(), make.primitive("u8"), make.variant()):
+            data = make.registry_of(
+                make.primitive("u8"), definition, make.bits(0, 1), make.composite(("a", 2), ("b", 0)), _1="Lsb0"
+            )
+            self.check_no_bits(Registry(data, bits=True))
+        wrapped = make.registry_of(
+            make.primitive("u8"), make.composite(), make.bits(4, 1), make.composite(("a", 2), ("b", 0)),
+            make.composite((None, 0)), _1="Lsb0",
+        )
+        self.check_no_bits(Registry(wrapped, bits=True))
+        for store, target in ((0, 9), (9, 1), (9, 9), ((1 << 30) - 1, (1 << 30) - 1)):
+            data = make.registry_of(
+                make.primitive("u8"), make.composite(), make.bits(store, target), make.composite(("a", 2), ("b", 0)),
+                _1="Lsb0",
+            )
+            self.check_no_bits(Registry(data, bits=True))
 
     def test_variants(self) -> None:
         registry = Registry(
@@ -418,6 +553,46 @@ class Classes(unittest.TestCase):
                 Empties(number)
 
 
+    def test_bits_are_a_sequence(self) -> None:
+        bits = Bits([True, False, True])
+        self.assertEqual((len(bits), list(bits), bits[-1], bits[1:]), (3, [True, False, True], True, Bits([False, True])))
+        self.assertEqual((bits[::-2], bits[5:], bits[1]), (Bits([True, True]), Bits(), False))
+        self.assertEqual((str(bits), repr(bits), repr(Bits()), f"{bits}"), ("0b101", "0b101", "0b", "0b101"))
+        self.assertEqual((bits.count(True), bits.count(0), bits.count("1"), bits.index(False)), (2, 1, 0, 1))
+        self.assertEqual((True in bits, False in Bits([True]), 5 in bits, None in bits), (True, False, False, False))
+        self.assertEqual(list(reversed(bits)), [True, False, True])
+        self.assertTrue(bits and not Bits())
+        self.assertTrue(all(type(bit) is bool for bit in (*bits, *reversed(bits), bits[0], bits[1])))
+        self.assertEqual((Bits(bits), Bits(iter([True])), Bits(())), (bits, Bits([True]), Bits()))
+        with self.assertRaises(IndexError):
+            bits[3]
+        wrong_index: Any = "0"
+        with self.assertRaises(TypeError):
+            bits[wrong_index]
+        with self.assertRaises(AttributeError):
+            setattr(bits, "_bits", b"")
+        for wrong, message in (([True, 1], "1, not int"), ("0b1", "0, not str"), (b"\1", "0, not int")):
+            with self.assertRaisesRegex(TypeError, f"^expected a bool at {message}$"):
+                Bits(wrong)  # type: ignore[arg-type]
+        with self.assertRaises(TypeError):
+            Bits(5)  # type: ignore[arg-type]
+
+    def test_bits_are_compared_hashed_and_copied(self) -> None:
+        bools = some_bits(100)
+        bits = Bits(bools)
+        for same in (bools, tuple(bools), Bits(bools), Bits(tuple(bools)), Bits(bools + [True])[:-1]):
+            self.assertTrue(bits == same and same == bits and not bits != same)
+        others = (bools[:-1], bools + [True], [not bit for bit in bools], Bits(bools[:-1]), bytes(bools), str(bits), 5, None)
+        for other in others:
+            self.assertFalse(bits == other or other == bits)
+        self.assertEqual({bits, Bits(bools), tuple(bools)}, {bits})
+        self.assertEqual({Bits(): 1}[()], 1)  # type: ignore[index]
+        for protocol in range(pickle.HIGHEST_PROTOCOL + 1):
+            self.assertEqual(pickle.loads(pickle.dumps(bits, protocol)), bits)
+        for copied in (copy.copy(bits), copy.deepcopy(bits)):
+            self.assertEqual((copied, type(copied)), (bits, Bits))
+
+
 class Encoding(unittest.TestCase):
     registry = Registry(
         make.registry_of(
@@ -488,6 +663,45 @@ class Encoding(unittest.TestCase):
             self.assertGreater(error.code, 400)
             for other in (pickle.loads(pickle.dumps(error)), copy.deepcopy(error)):
                 self.assertEqual((vars(other), str(other)), (vars(error), message))
+
+    def test_wrong_bits_are_named_by_their_path(self) -> None:
+        registry = Registry(bits_of("u32", "Lsb0"), bits=True)
+        kind = "expected a Bits or a list of bool"
+        cases: list[tuple[int, Any, type, str]] = [
+            (2, None, TypeError, f"value: {kind}, not NoneType"),
+            (2, 5, TypeError, f"value: {kind}, not int"),
+            (2, "0b1", TypeError, f"value: {kind}, not str"),
+            (2, b"\1", TypeError, f"value: {kind}, not bytes"),
+            (2, bytearray(b"\1"), TypeError, f"value: {kind}, not bytearray"),
+            (2, {True}, TypeError, f"value: {kind}, not set"),
+            (2, iter([True]), TypeError, f"value: {kind}, not list_iterator"),
+            (2, [True, 1], TypeError, "value[1]: expected a bool, not int"),
+            (2, (None,), TypeError, "value[0]: expected a bool, not NoneType"),
+            (2, Only([True, "1"]), TypeError, "value[1]: expected a bool, not str"),
+            (3, {"a": [True, False, 0], "b": 1}, TypeError, "value.a[2]: expected a bool, not int"),
+            (4, [Bits(), [0]], TypeError, "value[1][0]: expected a bool, not int"),
+            (4, Bits([True]), TypeError, f"value[0]: {kind}, not bool"),
+            (0, Bits([True]), TypeError, "value: expected an int, not Bits"),
+        ]
+        for type_id, value, error, message in cases:
+            with self.subTest(message), self.assertRaises(error) as raised:
+                registry.encode(type_id, value)
+            self.assertEqual((type(raised.exception), str(raised.exception)), (error, message))
+        forged = Bits()
+        object.__setattr__(forged, "_bits", 5)
+        with self.assertRaisesRegex(TypeError, "^value: expected bytes in a Bits, not int$"):
+            registry.encode(2, forged)
+        object.__setattr__(forged, "_bits", b"\xff\0\2")
+        self.assertEqual(registry.encode(2, forged).hex(), "0c05000000")
+
+    def test_bits_take_as_much_of_the_budget_as_their_words(self) -> None:
+        registry = Registry(bits_of("u8", "Lsb0"), bits=True)
+        bits = [True] * 80_000
+        for value in (bits, Bits(bits), Only(bits)):
+            self.assertEqual(len(registry.encode(2, value, memory=100_000)), 10_004)
+            for memory in (1, 24, 5_000, 10_000):
+                with self.assertRaises(OutOfMemory):
+                    registry.encode(2, value, memory=memory)
 
     def test_many_fields_are_compared_at_once(self) -> None:
         count = 100_000
@@ -841,7 +1055,7 @@ class Arguments(unittest.TestCase):
     def test_signatures_are_shown(self) -> None:
         rest = "depth=64, limit=16777216, memory=Ellipsis)"
         for call, signature in (
-            (Registry, "(data, *, metadata=None)"),
+            (Registry, "(data, *, metadata=None, bits=False)"),
             (Registry.decode, f"(self, /, type, data, *, {rest}"),
             (Registry.decode_prefix, f"(self, /, type, data, *, {rest}"),
             (Registry.decode_many, f"(self, /, type, items, *, {rest}"),

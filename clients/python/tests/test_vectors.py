@@ -10,7 +10,7 @@ import threading
 import unittest
 from typing import Any, Iterator, NamedTuple
 
-from scaleview import Arm, Decoder, Empties, Refused, Registry, Type, Variant
+from scaleview import Arm, Bits, Decoder, Empties, Refused, Registry, Type, Variant
 
 TABLES = pathlib.Path(__file__).resolve().parents[3] / "crates" / "vectors" / "data"
 
@@ -81,6 +81,9 @@ def shown(value: Any, found: Type) -> Any:
         return None
     if isinstance(value, Empties):
         return {"count": len(value)}
+    if isinstance(value, Bits):
+        assert kind == "bitsequence"
+        return str(value)
     if isinstance(value, bytes):
         assert kind in ("sequence", "array") and found.element is not None and types[found.element].kind == "u8"
         return "0x" + value.hex()
@@ -192,7 +195,7 @@ class Vectors(unittest.TestCase):
         finally:
             sys.setrecursionlimit(limit)
             threading.stack_size(size)
-        values = [value_of(row) for row in rows_of("values.tsv")]
+        values = [value_of(row) for table in ("values.tsv", "bits.tsv") for row in rows_of(table)]
         complete = [value for value in values if value.answer == "Done" and value.held[0] == len(value.data)]
         self.assertEqual(Vectors.encoded, len(complete))
 
@@ -200,13 +203,18 @@ class Vectors(unittest.TestCase):
         registries = {row[0]: bytes_of(row[2]) for row in rows_of("registries.tsv")}
         for row in rows_of("values.tsv"):
             with self.subTest(row[0]):
-                registry, value = Registry.raw(registries[row[1]]), value_of(row)
-                if value.depth > 1024:
-                    self.check_depth_out_of_range(registry, value)
-                    continue
-                self.check_whole(registry, value)
-                for step in 1, 7, 4096:
-                    self.check_pieces(registry, value, step)
+                self.check_value(Registry.raw(registries[row[1]]), value_of(row))
+        for row in rows_of("bits.tsv"):
+            with self.subTest(row[0]):
+                self.check_value(Registry.raw(bytes_of(row[1]), bits=True), value_of(row))
+
+    def check_value(self, registry: Registry, value: Value) -> None:
+        if value.depth > 1024:
+            self.check_depth_out_of_range(registry, value)
+            return
+        self.check_whole(registry, value)
+        for step in 1, 7, 4096:
+            self.check_pieces(registry, value, step)
 
 
 def json_text(text: str) -> str:

@@ -1,5 +1,5 @@
 -- What each call does to what is behind its handles, and what it reports.
-use Rattle.std.specs.Prelude.{◌≡◌, ℕ, ◌⊎◌, List, [], ◌++◌, length, Bool, Option}
+use Rattle.std.specs.Prelude.{◌≡◌, ℕ, ◌⊎◌, ◌%◌, ◌/◌, ◌==◌, List, [], ◌++◌, length, Option}
 use Rattle.std.specs.Prelude.{Some, None, MatchOption, Result, Ok, Err}
 use Rattle.limits_core.specs.declared.limits.Limits.{Limits}
 use Rattle.grammar_core.specs.Tree.{nodes, text_bytes as tree_text_bytes}
@@ -17,6 +17,7 @@ use Rattle.scale_calls.specs.Opened.{RefusesRegistry, checked_of, file_end, file
 use Rattle.scale_calls.specs.Refused.{opening_refusal, value_refusal}
 use Rattle.scale_calls.specs.Values.{ShowsValue}
 use Rattle.scale_calls.specs.declared.refusal.RegistryRefusal.{RegistryRefusal}
+use Rattle.scale_calls.specs.declared.registry.OpenOptions.{OpenOptions}
 use Rattle.scale_calls.specs.declared.refusal.ValueRefusal.{ValueRefusal}
 use Rattle.scale_calls.specs.declared.refusal.ValueRefusal.TheVariants as value
 use Rattle.scaleview_c.specs.Codes.{counted, opened_answer, plain, progress_answer}
@@ -43,13 +44,17 @@ WritesUnlessMemory text old new a = Leaves old new (plain 3) a ⊎ Writes text o
 
 -- ---- registries
 
+-- how flags open a registry: bit 0 stands for metadata and bit 2 for bits; others are ignored
+abbrev pub options_of : ℕ → OpenOptions
+options_of flags = record { metadata = flags % 2 == 1; bits = flags / 4 % 2 == 1 }
+
 -- the registry that the bytes hold is behind the handle; or nothing is, and the answer says why
-abbrev pub OpensRegistry : Bool → List ℕ → Option Resource → Answer → Type 0
-OpensRegistry metadata b (Some (held.Registry o)) a = (checked_of metadata b ≡ Some o.checked.types)
-    × ((end : ℕ) × (file_end metadata b ≡ Some end)
-    × (a ≡ opened_answer (file_version metadata b) end (length o.checked.types)))
-OpensRegistry metadata b (Some (held.Session s)) a = ⊥
-OpensRegistry metadata b None a = (e : RegistryRefusal) × RefusesRegistry metadata b e
+abbrev pub OpensRegistry : OpenOptions → List ℕ → Option Resource → Answer → Type 0
+OpensRegistry options b (Some (held.Registry o)) a = (checked_of options b ≡ Some o.checked.types)
+    × ((end : ℕ) × (file_end options.metadata b ≡ Some end)
+    × (a ≡ opened_answer (file_version options.metadata b) end (length o.checked.types)))
+OpensRegistry options b (Some (held.Session s)) a = ⊥
+OpensRegistry options b None a = (e : RegistryRefusal) × RefusesRegistry options b e
     × (a ≡ registry_answer e)
 
 -- the answer says that the handle isn't null, and what is behind it stays
@@ -57,16 +62,16 @@ abbrev pub Stays : Option Resource → Option Resource → Answer → Type 0
 Stays old new a = (new ≡ old) × (a ≡ plain 6)
 
 -- the registry is opened behind a null handle
-abbrev pub OpensHandle : Option Resource → Bool → List ℕ → Option Resource → Answer → Type 0
-OpensHandle (Some old) metadata b new a = Stays (Some old) new a
-OpensHandle None metadata b new a = OpensRegistry metadata b new a
+abbrev pub OpensHandle : Option Resource → OpenOptions → List ℕ → Option Resource → Answer → Type 0
+OpensHandle (Some old) options b new a = Stays (Some old) new a
+OpensHandle None options b new a = OpensRegistry options b new a
 
 -- the same for a box, by what it holds
-abbrev pub OpensBox : {X : Type 0} → (X → Resource) → Bool → List ℕ →
+abbrev pub OpensBox : {X : Type 0} → (X → Resource) → OpenOptions → List ℕ →
     Result (X × Answer) RegistryRefusal →
     Type 0
-OpensBox value_of metadata b (Ok x) = OpensRegistry metadata b (Some (value_of x.0)) x.1
-OpensBox value_of metadata b (Err e) = RefusesRegistry metadata b e
+OpensBox value_of options b (Ok x) = OpensRegistry options b (Some (value_of x.0)) x.1
+OpensBox value_of options b (Err e) = RefusesRegistry options b e
 
 -- nothing is behind the handle any more; or what is there stays, because a session has the registry
 -- or because it is no registry

@@ -47,6 +47,7 @@ value_code reason.BitSequence = 310
 value_code reason.BadCompact = 311
 value_code reason.TooLong = 312
 value_code reason.OutOfMemory = 3
+value_code reason.UnusedBits = 314
 
 -- a code alone, with a number, and with a place
 abbrev pub plain : ℕ → Answer

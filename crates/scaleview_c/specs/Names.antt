@@ -23,7 +23,7 @@ of_registry = registry.reason_name types.Truncated ∷ registry.reason_name type
 abbrev pub of_opening : List (List ℕ)
 of_opening = codes "UnknownType" ∷ codes "LimitOutOfRange" ∷ codes "UnknownPart" ∷ []
 
--- those from 301 on: the reasons of a value, and one more
+-- those from 301 on: the reasons of a value, and bytes after it
 abbrev pub of_value : List (List ℕ)
 of_value = value.reason_name reason.Truncated ∷ value.reason_name reason.BadBool
     ∷ value.reason_name reason.BadChar ∷ value.reason_name reason.BadUtf8
@@ -31,7 +31,7 @@ of_value = value.reason_name reason.Truncated ∷ value.reason_name reason.BadBo
     ∷ value.reason_name reason.NoSuchVariant ∷ value.reason_name reason.TooDeep
     ∷ value.reason_name reason.NoFiniteValue ∷ value.reason_name reason.BitSequence
     ∷ value.reason_name reason.BadCompact ∷ value.reason_name reason.TooLong
-    ∷ codes "TrailingBytes" ∷ []
+    ∷ codes "TrailingBytes" ∷ value.reason_name reason.UnusedBits ∷ []
 
 -- those from 401 on: the reasons of a builder
 abbrev pub of_records : List (List ℕ)
@@ -47,7 +47,7 @@ code_name code = if nat_le code 6 then slice_index_or calls code []
     else if nat_le code 200 then []
     else if nat_le code 203 then slice_index_or of_opening (code - 201) []
     else if nat_le code 300 then []
-    else if nat_le code 313 then slice_index_or of_value (code - 301) []
+    else if nat_le code 314 then slice_index_or of_value (code - 301) []
     else if nat_le code 400 then []
     else if nat_le code 409 then slice_index_or of_records (code - 401) []
     else []

@@ -103,12 +103,12 @@ FinishesNodes None kept old new old_pool pool a = (kept ≡ None)
 abbrev pub ReadsNodes : List TypeInfo → ℕ → ℕ → List Record → List ℕ → Result Seen RecordFault →
     Type 0
 ReadsNodes types id depth records pool r = ReadsRecords (build_opening_fault types id depth)
-    (ended (length records) (replay pool records (start_with types id depth))) r
+    (ended (length records) (replay types pool records (start_with types id depth))) r
 
 -- the value of this type with the tree of the records
 abbrev pub value_of : List TypeInfo → ℕ → List Record → List ℕ → Seen
 value_of types id records pool =
-    record { types = types; ty = id; tree = tree_read pool records }
+    record { types = types; ty = id; tree = tree_read types pool records }
 
 -- the bytes that spell the value are written, or the answer says why there is none
 abbrev pub WritesSpelling : Seen → Result Seen RecordFault → List ℕ → List ℕ → Answer → Type 0

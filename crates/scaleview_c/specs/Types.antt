@@ -36,7 +36,7 @@ kind_number (definition.Array len element) = 3
 kind_number (definition.Tuple members) = 4
 kind_number (definition.Primitive p) = 5
 kind_number (definition.Compact target) = 6
-kind_number (definition.BitSequence store order) = 7
+kind_number (definition.BitSequence store order form) = 7
 
 -- a kind and a class alone: every number without a meaning for the kind is 0
 abbrev pub plain_shape : ℕ → Class → TypeShape
@@ -60,12 +60,12 @@ abbrev pub element_of : TypeDef → ℕ
 element_of (definition.Sequence element) = element.0
 element_of (definition.Array len element) = element.0
 element_of (definition.Compact target) = target.0
-element_of (definition.BitSequence store order) = store.0
+element_of (definition.BitSequence store order form) = store.0
 element_of _ = 0
 
 -- the type that names a bit sequence's order
 abbrev pub order_of : TypeDef → ℕ
-order_of (definition.BitSequence store order) = order.0
+order_of (definition.BitSequence store order form) = order.0
 order_of _ = 0
 
 -- the number of an array's elements

@@ -84,6 +84,7 @@ fn value_code(reason: DecodeReason) -> u32
         DecodeReason::BadCompact => 311,
         DecodeReason::TooLong => 312,
         DecodeReason::OutOfMemory => MEMORY,
+        DecodeReason::UnusedBits => 314,
     }
 }
 

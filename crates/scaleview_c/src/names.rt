@@ -42,7 +42,7 @@ const REGISTRY: [&str; 12] = [
 const OPENING: [&str; 3] = ["UnknownType", "LimitOutOfRange", "UnknownPart"];
 
 /// The names of the codes from 301 on, which say why bytes hold no value.
-const VALUE: [&str; 13] = [
+const VALUE: [&str; 14] = [
     "Truncated",
     "BadBool",
     "BadChar",
@@ -56,6 +56,7 @@ const VALUE: [&str; 13] = [
     "BadCompact",
     "TooLong",
     "TrailingBytes",
+    "UnusedBits",
 ];
 
 /// The names of the codes from 401 on, which say why records are no value.
@@ -79,7 +80,7 @@ fn code_name(code: u32) -> &'static str
         0..=6 => CALLS[code as usize],
         101..=112 => REGISTRY[code as usize - 101],
         201..=203 => OPENING[code as usize - 201],
-        301..=313 => VALUE[code as usize - 301],
+        301..=314 => VALUE[code as usize - 301],
         401..=409 => RECORDS[code as usize - 401],
         _ => "",
     }

@@ -176,7 +176,8 @@ fn write_encoded(
     }
 }
 
-/// Writes the bytes of the value, of the type at a position, whose nodes these records are.
+/// Writes the bytes of the value, of the type at a position, whose nodes these records are. Of a
+/// record, `ty` is read only if the node is a bit sequence.
 ///
 /// # Errors
 ///

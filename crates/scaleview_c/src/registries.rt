@@ -2,8 +2,7 @@
 
 ghost use Rattle.std.specs.Prelude.{◌≡◌, None, Some};
 ghost use Rattle.scaleview_c.specs.Calls.{ClosesRegistry, OpensBox, OpensHandle, ReportsTypes};
-ghost use Rattle.scaleview_c.specs.Calls.{WritesJson};
-ghost use Rattle.scaleview_c.specs.Calls.{WritesLine, WritesValue};
+ghost use Rattle.scaleview_c.specs.Calls.{WritesJson, WritesLine, WritesValue, options_of};
 ghost use Rattle.scaleview_c.specs.Kept.{GivesRegistry};
 
 use crate::codes::{Answer, MEMORY, NO_HANDLE, OK, TAKEN, UNKNOWN_TYPE};
@@ -14,24 +13,36 @@ use crate::opened::Opened;
 use crate::resource::Resource;
 use crate::text::{put, put_json};
 use budget_core::Budget;
-use scale_calls::{OpenedRegistry, RegistryRefusal, open_registry, read_value, type_line};
+use scale_calls::{
+    OpenOptions, OpenedRegistry, RegistryRefusal, open_registry, read_value, type_line,
+};
 use std::alloc::Global;
 use std::mem;
 use value_core::Limits;
 
+/// Returns how flags open a registry.
+fn options_of(flags: u32) -> OpenOptions
+    ensures { result ≡ options_of flags }
+{
+    OpenOptions {
+        metadata: flags % 2 == 1,
+        bits: flags / 4 % 2 == 1,
+    }
+}
+
 /// Opens the registry that the bytes hold, and returns the answer that reports it.
 fn opened(
     alloc: Global,
-    metadata: bool,
+    options: OpenOptions,
     bytes: &[u8],
 ) -> Result<(Box<Resource>, Answer), RegistryRefusal>
-    ensures { OpensBox (λ held. held.value) metadata bytes.now result }
+    ensures { OpensBox (λ held. held.value) options bytes.now result }
 {
     let OpenedRegistry {
         checked,
         version,
         end,
-    } = open_registry(alloc, metadata, bytes)?;
+    } = open_registry(alloc, options, bytes)?;
     let answer = Answer::of_opened(version, end, checked.registry().types().len());
     match Box::new(alloc, Resource::Registry(Opened::new(checked))) {
         Ok(held) => Ok((held, answer)),
@@ -39,16 +50,19 @@ fn opened(
     }
 }
 
-/// Opens the registry that the bytes hold, alone or in metadata, behind a null handle.
+/// Opens the registry that the bytes hold, behind a null handle.
+///
+/// In `flags`, bit 0 is 1 if the registry is in metadata, and bit 2 if bit sequences are read;
+/// other bits are ignored.
 #[unsafe(no_mangle)]
 pub extern "C" fn scaleview_open(
     alloc: Global,
     bytes: &[u8],
-    metadata: bool,
+    flags: u32,
     registry: &mut Handle,
     answer: &mut Answer,
 ) -> u32
-    ensures opened { OpensHandle registry.old.value metadata bytes.now
+    ensures opened { OpensHandle registry.old.value (options_of flags) bytes.now
         registry.new.value answer.new }
     ensures code { result ≡ answer.new.code }
 {
@@ -57,7 +71,7 @@ pub extern "C" fn scaleview_open(
         *answer = Answer::plain(TAKEN);
         return TAKEN;
     }
-    match opened(alloc, metadata, bytes) {
+    match opened(alloc, options_of(flags), bytes) {
         Ok((held, opened)) => {
             *registry = handle_of(held);
             *answer = opened;

@@ -119,7 +119,7 @@ impl TypeShape {
             TypeDef::Tuple(members) => shape.parts = members.len() as u32,
             TypeDef::Primitive(primitive) => shape.primitive = primitive_number(*primitive),
             TypeDef::Compact(target) => shape.element = target.0,
-            TypeDef::BitSequence { store, order } => {
+            TypeDef::BitSequence { store, order, .. } => {
                 shape.element = store.0;
                 shape.order = order.0;
             }

@@ -14,7 +14,8 @@ values of its types are:
 - a dict in field order for a composite whose fields all have names, which differ, and a tuple for other
   composites and for tuples;
 - `Variant` for a variant;
-- None for types of no bytes, and `Empties` for a sequence of them.
+- None for types of no bytes, and `Empties` for a sequence of them;
+- `Bits` for a bit sequence, of a registry that was opened with `bits=True`.
 
 Any thread may use a registry and its decoders. Long inputs are decoded without the lock of the interpreter.
 
@@ -45,7 +46,7 @@ except ImportError as error:
     if getattr(error, "name", None) not in ("scaleview", "scaleview._native"):
         raise
     raise ImportError(f"scaleview can't be loaded: install it by `pip install ./clients/python` ({error})") from error
-from ._base import Empties, EncodeError, OutOfMemory, Refused
+from ._base import Bits, Empties, EncodeError, OutOfMemory, Refused
 from ._native import DEPTH, LIMIT, Decoder, Variant
 
 __version__ = "0.1.0"
@@ -54,6 +55,7 @@ __all__ = [
     "Decoder",
     "Variant",
     "Empties",
+    "Bits",
     "Type",
     "Field",
     "Arm",
@@ -208,6 +210,10 @@ class Registry(_native.Registry):
     `data` holds a registry's bytes, or a chain's metadata of version 14 or 15, which is recognised by its
     four letters "meta". With `metadata=True` it has to be metadata, and with `metadata=False` a registry.
 
+    With `bits=True` it reads values of bit sequences. The store of such a type has to be u8, u16, u32 or u64,
+    and its order a composite without fields whose path ends with Lsb0 or Msb0. Values of other bit sequences are
+    rejected, as all are by default.
+
     It needs no `close`: memory is freed with the last object that uses it.
 
     Raises:
@@ -217,9 +223,9 @@ class Registry(_native.Registry):
     """
 
     @classmethod
-    def raw(cls: type[_R], data: Buffer) -> _R:
+    def raw(cls: type[_R], data: Buffer, *, bits: bool = False) -> _R:
         """Opens a registry that stands alone, whatever its first letters are."""
-        return cls(data, metadata=False)
+        return cls(data, metadata=False, bits=bits)
 
     @property
     def types(self) -> Types:

@@ -3,7 +3,7 @@
 from __future__ import annotations
 
 import operator
-from typing import Any, Optional, Sequence
+from typing import Any, Iterable, Iterator, Optional, Sequence, SupportsIndex, Union, overload
 
 
 class Refused(ValueError):
@@ -118,3 +118,89 @@ class Empties(Sequence[None]):
 
     def __reduce__(self) -> Any:
         return Empties, (self._count,)
+
+
+class Bits(Sequence[bool]):
+    """A bit sequence: an immutable sequence of bool, which equals a list or a tuple of the same ones.
+
+        >>> bits = Bits([True, False, True])
+        >>> bits, len(bits), bits[0], bits[1:]
+        (0b101, 3, True, 0b01)
+        >>> bits == [True, False, True]
+        True
+
+    Raises:
+        TypeError: An element isn't a bool.
+    """
+
+    __slots__ = ("_bits",)
+
+    # A byte for each bit, 0 or 1.
+    _bits: bytes
+
+    def __init__(self, bits: Iterable[bool] = ()) -> None:
+        elements = tuple(bits)
+        for at, bit in enumerate(elements):
+            if not isinstance(bit, bool):
+                raise TypeError(f"expected a bool at {at}, not {type(bit).__name__}")
+        object.__setattr__(self, "_bits", bytes(elements))
+
+    @classmethod
+    def _of(cls, bits: bytes) -> Bits:
+        made = cls.__new__(cls)
+        object.__setattr__(made, "_bits", bits)
+        return made
+
+    def __setattr__(self, name: str, value: object) -> None:
+        raise AttributeError(f"{name} can't be set")
+
+    def __len__(self) -> int:
+        return len(self._bits)
+
+    @overload
+    def __getitem__(self, index: SupportsIndex) -> bool: ...
+
+    @overload
+    def __getitem__(self, index: slice) -> Bits: ...
+
+    def __getitem__(self, index: Union[SupportsIndex, slice]) -> Union[bool, Bits]:
+        found = self._bits[index]
+        return Bits._of(found) if isinstance(found, bytes) else found == 1
+
+    def __iter__(self) -> Iterator[bool]:
+        return map(bool, self._bits)
+
+    def __reversed__(self) -> Iterator[bool]:
+        return map(bool, reversed(self._bits))
+
+    def __eq__(self, other: object) -> bool:
+        """Returns whether they are the same bits, or a list or a tuple of them."""
+        if isinstance(other, Bits):
+            return self._bits == other._bits
+        if isinstance(other, list):
+            return len(other) == len(self) and other == list(self)
+        if isinstance(other, tuple):
+            return len(other) == len(self) and other == tuple(self)
+        return NotImplemented
+
+    def __contains__(self, value: object) -> bool:
+        return self.count(value) > 0
+
+    def count(self, value: object) -> int:
+        """Returns how many bits equal the value."""
+        ones = self._bits.count(1)
+        zeros = len(self._bits) - ones
+        return [True].count(value) * ones + [False].count(value) * zeros  # type: ignore[arg-type]
+
+    def __hash__(self) -> int:
+        # A tuple that is equal has the same.
+        return hash(tuple(self))
+
+    def __repr__(self) -> str:
+        return "0b" + self._bits.translate(_DIGITS).decode()
+
+    def __reduce__(self) -> Any:
+        return Bits._of, (self._bits,)
+
+
+_DIGITS = bytes.maketrans(b"\0\1", b"01")

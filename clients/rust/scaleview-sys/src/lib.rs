@@ -99,11 +99,13 @@ pub const SCALEVIEW_VALUE_BAD_COMPACT: u32 = 311;
 pub const SCALEVIEW_VALUE_TOO_LONG: u32 = 312;
 /// Bytes follow the value, which ends at `at`.
 pub const SCALEVIEW_VALUE_TRAILING_BYTES: u32 = 313;
+/// The value's bytes are rejected: `UnusedBits`.
+pub const SCALEVIEW_VALUE_UNUSED_BITS: u32 = 314;
 /// A node is rejected: it is deeper than `depth`.
 pub const SCALEVIEW_NODES_TOO_DEEP: u32 = 401;
 /// A node is rejected: its type has no finite value.
 pub const SCALEVIEW_NODES_NO_FINITE_VALUE: u32 = 402;
-/// A node is rejected: its type is a bit sequence, whose values are not supported.
+/// A node is rejected: its type is a bit sequence that the registry doesn't read.
 pub const SCALEVIEW_NODES_BIT_SEQUENCE: u32 = 403;
 /// A node is rejected: its type is a compact that wraps no unsigned integer.
 pub const SCALEVIEW_NODES_BAD_COMPACT: u32 = 404;
@@ -111,7 +113,7 @@ pub const SCALEVIEW_NODES_BAD_COMPACT: u32 = 404;
 /// value.
 pub const SCALEVIEW_NODES_WRONG_KIND: u32 = 405;
 /// A node is rejected: a number, a length, a range of the pool or a number of children is out of
-/// range.
+/// range, or an unused bit is 1.
 pub const SCALEVIEW_NODES_OUT_OF_RANGE: u32 = 406;
 /// A node is rejected: no arm has this position, or an earlier arm has its index.
 pub const SCALEVIEW_NODES_NO_SUCH_VARIANT: u32 = 407;
@@ -119,6 +121,12 @@ pub const SCALEVIEW_NODES_NO_SUCH_VARIANT: u32 = 407;
 pub const SCALEVIEW_NODES_UNFINISHED_VALUE: u32 = 408;
 /// A node is rejected: a text is not UTF-8.
 pub const SCALEVIEW_NODES_BAD_TEXT: u32 = 409;
+
+/// A flag of [`scaleview_open`]: the bytes are a chain's metadata.
+pub const SCALEVIEW_METADATA: u32 = 1;
+/// A flag of [`scaleview_open`]: values of bit sequences are read, where the store and the order
+/// are known.
+pub const SCALEVIEW_BITS: u32 = 4;
 
 /// The kind of a type: composite.
 pub const SCALEVIEW_COMPOSITE: u32 = 0;
@@ -203,6 +211,9 @@ pub const SCALEVIEW_NODE_FIELDS: u32 = 10;
 pub const SCALEVIEW_NODE_ARM: u32 = 11;
 /// A kind of node: an array or a sequence of another type than u8.
 pub const SCALEVIEW_NODE_LIST: u32 = 12;
+/// A kind of node: a bit sequence of `high` bits, whose words begin at the position `low` of the
+/// pool.
+pub const SCALEVIEW_NODE_BITS: u32 = 13;
 
 /// What a type is. Numbers are 0 unless the kind gives them a meaning.
 #[repr(C)]
@@ -218,7 +229,7 @@ pub struct scaleview_type_shape {
     /// The type of a sequence's or an array's elements, a compact's target, or a bit sequence's
     /// store.
     pub element: u32,
-    /// The type that names the order of a bit sequence.
+    /// The type that names the order of a bit sequence, by the last segment of its path.
     pub order: u32,
     /// The number of elements of an array.
     pub length: u32,
@@ -227,14 +238,19 @@ pub struct scaleview_type_shape {
 }
 
 /// A node of a value. The nodes of a value stand in the order of their bytes, each before its
-/// children, and the bytes of texts, byte runs and 256-bit integers in the same order in a pool
-/// beside them.
+/// children, and the bytes of texts, byte runs, bit sequences and 256-bit integers in the same
+/// order in a pool beside them.
+///
+/// The words of a bit sequence are those of its type. In the shape of [`scaleview_type`],
+/// `element` is the type of a word, u8 to u64, and `order` is a type whose path ends with `Lsb0`
+/// or `Msb0`. Words are little-endian. Bit i is in the word i / w of w bits, where it has the
+/// value 2^(i mod w) with `Lsb0`, and 2^(w - 1 - i mod w) with `Msb0`. Unused bits are 0.
 #[repr(C)]
 #[derive(Clone, Copy, Debug, Default, PartialEq, Eq, Hash)]
 pub struct scaleview_node {
-    /// The kind, of `SCALEVIEW_NODE_EMPTY` to `SCALEVIEW_NODE_LIST`.
+    /// The kind, of `SCALEVIEW_NODE_EMPTY` to `SCALEVIEW_NODE_BITS`.
     pub kind: u32,
-    /// The position of its type.
+    /// The position of its type, which encoding reads of a bit sequence alone.
     pub r#type: u32,
     /// How many children it has; each follows with its own subtree.
     pub children: u32,
@@ -243,7 +259,7 @@ pub struct scaleview_node {
     /// A number's low half, or a place in the pool; of a composite, a tuple, a variant or a list
     /// how many nodes its subtree has, itself included.
     pub low: u64,
-    /// A number's high half, or how many bytes it has in the pool.
+    /// A number's high half, how many bytes it has in the pool, or how many bits it has.
     pub high: u64,
 }
 
@@ -297,8 +313,8 @@ const _: () = {
 };
 
 unsafe extern "C" {
-    /// Opens the registry that all the bytes hold, with `metadata` a chain's metadata, whose end is
-    /// not read.
+    /// Opens the registry that all the bytes hold. `flags` is 0 or a sum of [`SCALEVIEW_METADATA`]
+    /// for a chain's metadata, whose end is not read, and [`SCALEVIEW_BITS`].
     ///
     /// # Safety
     ///
@@ -308,7 +324,7 @@ unsafe extern "C" {
     pub fn scaleview_open(
         bytes: *const u8,
         length: usize,
-        metadata: bool,
+        flags: u32,
         registry: *mut scaleview_registry,
         answer: *mut scaleview_answer,
     ) -> u32;
@@ -564,7 +580,7 @@ unsafe extern "C" {
     /// `answer` can be written. What is written overlaps nothing else that the call is given.
     pub fn scaleview_nodes(session: *mut scaleview_session, answer: *mut scaleview_answer) -> u32;
 
-    /// Reports the number of bytes of texts and byte runs held.
+    /// Reports the number of bytes of texts, byte runs and bit sequences held.
     ///
     /// # Safety
     ///

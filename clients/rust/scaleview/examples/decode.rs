@@ -1,12 +1,12 @@
 //! Decodes a value as the command does, whole or in pieces, or lists the types of a registry.
 //!
 //!     decode types FILE [--metadata]
-//!     decode decode FILE ID VALUEFILE [--metadata] [--depth D] [--pieces N] [--display]
+//!     decode decode FILE ID VALUEFILE [--metadata] [--bits] [--depth D] [--pieces N] [--display]
 //!
 //! With `--display` the text is made by this crate of a value's nodes, and otherwise by the
 //! library.
 
-use scaleview::{Error, Limits, Progress, Registry, Session, ValueReason};
+use scaleview::{Error, Limits, OpenOptions, Progress, Registry, Session, ValueReason};
 use std::num::NonZeroUsize;
 use std::process::ExitCode;
 use std::{env, fs};
@@ -15,6 +15,7 @@ use std::{env, fs};
 struct Words {
     names: Vec<String>,
     metadata: bool,
+    options: OpenOptions,
     displays: bool,
     limits: Limits,
     pieces: Option<NonZeroUsize>,
@@ -33,6 +34,7 @@ fn words() -> Option<Words> {
     while let Some(word) = rest.next() {
         match word.as_str() {
             "--metadata" => words.metadata = true,
+            "--bits" => words.options = words.options.bits(true),
             "--display" => words.displays = true,
             "--depth" => {
                 words.limits = words
@@ -96,9 +98,9 @@ fn answer(words: &Words) -> Result<String, (String, u8)> {
     let open = |path| {
         let bytes = read(path)?;
         if words.metadata {
-            Registry::open_metadata(&bytes)
+            words.options.open_metadata(&bytes)
         } else {
-            Registry::open_raw(&bytes)
+            words.options.open_raw(&bytes)
         }
         .map_err(told)
     };

@@ -1,5 +1,6 @@
 //! Conversions of a value's leaves into Rust's types.
 
+use crate::bits::Bits;
 use crate::value::ValueRef;
 use std::fmt;
 
@@ -49,3 +50,4 @@ try_from_leaf! { as_bool: bool }
 try_from_leaf! { as_char: char }
 try_from_leaf! { as_str: &'a str }
 try_from_leaf! { as_bytes: &'a [u8] }
+try_from_leaf! { as_bits: Bits<'a> }

@@ -1,8 +1,9 @@
 //! Reads what a registry says of a type.
 
+use crate::bits::Form;
 use crate::buffer;
 use crate::error::Error;
-use crate::types::{Field, FieldList, Keys, TypeId, Variant};
+use crate::types::{Field, FieldList, Keys, Primitive, TypeId, Variant};
 use scaleview_sys::{
     self as sys, scaleview_answer as Answer, scaleview_registry as Handle,
     scaleview_type_shape as Shape,
@@ -15,6 +16,8 @@ pub(crate) struct Details {
     pub path: String,
     pub list: FieldList,
     pub variants: Vec<Variant>,
+    /// How a bit sequence stores its bits.
+    pub form: Option<Form>,
 }
 
 /// An open registry that nothing changes meanwhile.
@@ -98,6 +101,22 @@ impl Reader {
         })
     }
 
+    /// Returns how a bit sequence stores its bits. Its store and its order need not exist.
+    fn form(self, shape: Shape) -> Result<Option<Form>, Error> {
+        if shape.kind != sys::SCALEVIEW_BIT_SEQUENCE {
+            return Ok(None);
+        }
+        let store = self.shape(shape.element).unwrap_or_default();
+        if store.kind != sys::SCALEVIEW_PRIMITIVE {
+            return Ok(None);
+        }
+        match self.path(shape.order) {
+            Ok(order) => Ok(Form::of(Primitive::of(store.primitive), &order)),
+            Err(Error::UnknownType { .. }) => Ok(None),
+            Err(error) => Err(error),
+        }
+    }
+
     /// Returns all that the registry says of the type.
     pub fn details(self, id: TypeId) -> Result<Details, Error> {
         let shape = self.shape(id).map_err(Error::of_type(id))?;
@@ -120,6 +139,7 @@ impl Reader {
             path,
             list,
             variants,
+            form: self.form(shape)?,
         })
     }
 }

@@ -67,10 +67,11 @@ reasons! {
     307 NoSuchVariant "No variant has this index.",
     308 TooDeep "A part is deeper than the limit.",
     309 NoFiniteValue "The type has no finite value.",
-    310 BitSequence "The type is a bit sequence, whose values are not supported.",
+    310 BitSequence "The type is a bit sequence that the registry doesn't read.",
     311 BadCompact "The type is a compact that wraps no unsigned integer.",
     312 TooLong "The value has more bytes than the limit.",
     313 TrailingBytes "Bytes follow the value.",
+    314 UnusedBits "A bit that stands for none of a bit sequence is 1.",
 }
 
 reasons! {
@@ -78,7 +79,7 @@ reasons! {
     NodeReason:
     401 TooDeep "It is deeper than the limit.",
     402 NoFiniteValue "Its type has no finite value.",
-    403 BitSequence "Its type is a bit sequence, whose values are not supported.",
+    403 BitSequence "Its type is a bit sequence that the registry doesn't read.",
     404 BadCompact "Its type is a compact that wraps no unsigned integer.",
     405 WrongKind "It is of another kind than its type.",
     406 OutOfRange "A number, a length or the number of its children is out of range.",

@@ -1,5 +1,6 @@
 //! Values that a program builds, to be encoded.
 
+use crate::bits::Bits;
 #[cfg(doc)]
 use crate::registry::Registry;
 use crate::value::{Value, ValueRef};
@@ -66,6 +67,8 @@ pub enum Item<'a> {
     List(Vec<Item<'a>>),
     /// A sequence of so many elements that take no bytes.
     Empties(u32),
+    /// A bit sequence.
+    Bits(Bits<'a>),
 }
 
 impl<'a> Item<'a> {
@@ -100,6 +103,29 @@ impl<'a> Item<'a> {
     /// Returns a sequence or an array of u8.
     pub fn bytes(bytes: &'a [u8]) -> Item<'a> {
         Item::Bytes(bytes)
+    }
+
+    /// Returns a bit sequence of a slice of `bool`, or of the bits of a decoded value.
+    ///
+    /// # Examples
+    ///
+    /// ```
+    /// # use scaleview::{Error, Item, OpenOptions};
+    /// # fn main() -> Result<(), Error> {
+    /// // A u8, the order Lsb0, and a bit sequence of both.
+    /// let types = b"\x0c\x00\0\0\x05\x03\0\x04\x04\x10Lsb0\0\0\0\0\x08\0\0\x07\x00\x04\0";
+    /// let registry = OpenOptions::new().bits(true).open(types)?;
+    /// let bytes = registry.encode(2, &Item::bits(&[true, false, true]))?;
+    /// assert_eq!(bytes, b"\x0c\x05");
+    ///
+    /// let value = registry.decode(2, &bytes)?;
+    /// let item = Item::bits(value.as_bits().unwrap());
+    /// assert_eq!(registry.encode(2, &item)?, bytes);
+    /// # Ok(())
+    /// # }
+    /// ```
+    pub fn bits(bits: impl Into<Bits<'a>>) -> Item<'a> {
+        Item::Bits(bits.into())
     }
 }
 
@@ -146,6 +172,24 @@ impl<'a, const N: usize> From<&'a [u8; N]> for Item<'a> {
     }
 }
 
+impl<'a> From<&'a [bool]> for Item<'a> {
+    fn from(bits: &'a [bool]) -> Self {
+        Item::bits(bits)
+    }
+}
+
+impl<'a, const N: usize> From<&'a [bool; N]> for Item<'a> {
+    fn from(bits: &'a [bool; N]) -> Self {
+        Item::bits(bits)
+    }
+}
+
+impl<'a> From<Bits<'a>> for Item<'a> {
+    fn from(bits: Bits<'a>) -> Self {
+        Item::Bits(bits)
+    }
+}
+
 /// What [`Registry::encode`] takes: an item, a value, or a part of one.
 #[derive(Clone, Copy, Debug)]
 #[non_exhaustive]
@@ -153,6 +197,9 @@ pub enum Source<'a> {
     /// A value that a program built.
     Item(&'a Item<'a>),
     /// A value that was decoded, of this registry or of one whose types are at the same positions.
+    ///
+    /// The bit sequences in it are encoded as types of the same store and order. A part that is a
+    /// bit sequence itself may be encoded as one of another.
     Value(ValueRef<'a>),
 }
 

@@ -114,6 +114,7 @@ fn begin<'a>(
             bytes.reverse();
             return write_hex(f, &bytes);
         }
+        Kind::Bits(bits) => return write!(f, "\"{bits}\""),
         Kind::Empties(count) => return write!(f, "{{\"count\":{count}}}"),
         Kind::Unsigned(number) | Kind::Compact(number) => return write_number(f, value, number),
         Kind::Signed(number) => return write_number(f, value, number),

@@ -32,6 +32,7 @@
     clippy::unwrap_used
 )]
 
+mod bits;
 mod buffer;
 mod convert;
 mod describe;
@@ -40,15 +41,18 @@ mod item;
 mod json;
 mod limits;
 mod lower;
+mod options;
 mod registry;
 mod session;
 mod types;
 mod value;
 
+pub use bits::{BitIter, Bits};
 pub use convert::TryFromValueError;
 pub use error::{Error, NodeReason, RegistryReason, ValueReason};
 pub use item::{Item, Source};
 pub use limits::{Limits, Memory};
+pub use options::OpenOptions;
 pub use registry::Registry;
 pub use session::{AnySession, OwnedSession, Progress, RegistryRef, Session};
 pub use types::{Class, Field, Primitive, Type, TypeId, TypeKind, Types, Variant};

@@ -38,7 +38,7 @@ pub enum Memory {
     /// 64 MiB and 64 times the length of the input.
     ///
     /// The input of a session is as long as its limit of bytes. That of an encoding has 32 bytes
-    /// for each node, and the bytes of its texts and byte runs.
+    /// for each node, and the bytes of its texts, byte runs and bit sequences.
     ///
     /// A value of more than a mebibyte with three or more parts for each byte may exceed it.
     #[default]

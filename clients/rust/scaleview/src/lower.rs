@@ -1,5 +1,6 @@
 //! Turns items into nodes, by the types that a registry says they have.
 
+use crate::bits::Bits;
 use crate::buffer;
 use crate::describe::Details;
 use crate::error::{Error, NodeReason};
@@ -79,6 +80,16 @@ impl<'a> Lowering<'a> {
         let at = self.pool.len() as u64;
         buffer::extend(&mut self.pool, bytes)?;
         self.put(kind, id, at, bytes.len() as u64)
+    }
+
+    /// Puts the node of a bit sequence, whose words are those of its type.
+    fn put_bits(&mut self, id: TypeId, bits: Bits<'_>) -> Result<(), Error> {
+        // The library rejects the node of a type of no form.
+        let Some(form) = self.registry.details(id)?.form else {
+            return self.put(sys::SCALEVIEW_NODE_BITS, id, 0, 0);
+        };
+        let at = bits.append(form, &mut self.pool)?;
+        self.put(sys::SCALEVIEW_NODE_BITS, id, at as u64, bits.len() as u64)
     }
 
     fn put_parent(
@@ -314,6 +325,7 @@ impl<'a> Lowering<'a> {
             Item::Char(c) => self.put(sys::SCALEVIEW_NODE_CHAR, id, u64::from(*c), 0),
             Item::Text(text) => self.put_bytes(sys::SCALEVIEW_NODE_TEXT, id, text.as_bytes()),
             Item::Bytes(bytes) => self.put_bytes(sys::SCALEVIEW_NODE_BYTES, id, bytes),
+            Item::Bits(bits) => self.put_bits(id, *bits),
             Item::Unsigned(number) => self.put_number(id, *number, false),
             Item::Signed(number) => self.put_number(id, *number as u128, *number < 0),
             Item::Wide(bytes) => self.put_bytes(sys::SCALEVIEW_NODE_WIDE, id, bytes),

@@ -3,9 +3,10 @@
 use crate::buffer;
 use crate::describe::{Details, Reader};
 use crate::error::{Error, ValueReason};
-use crate::item::Source;
+use crate::item::{Item, Source};
 use crate::limits::Limits;
 use crate::lower::lower;
+use crate::options::OpenOptions;
 use crate::session::{OwnedSession, Progress, Session};
 use crate::types::{Primitive, Type, TypeId, Types};
 use crate::value::Value;
@@ -76,16 +77,13 @@ pub struct Registry {
     version: u32,
 }
 
-/// The first four bytes of metadata. No registry alone begins with them: its first type would have
-/// the id 29.
-const METADATA: &[u8] = b"meta";
-
 /// The length from which on a value is decoded in a session, in bytes.
 // A shorter value for which the first guess is enough would be decoded more slowly in a session.
 const LARGE: usize = 1 << 18;
 
 impl Registry {
-    fn opened(bytes: &[u8], metadata: bool) -> Result<Registry, Error> {
+    /// Opens a registry with these flags of [`scaleview_open`](sys::scaleview_open).
+    pub(crate) fn opened(bytes: &[u8], flags: u32) -> Result<Registry, Error> {
         let found = sys::scaleview_version();
         if found / 100 != sys::SCALEVIEW_VERSION / 100 {
             return Err(Error::Version { found });
@@ -98,13 +96,7 @@ impl Registry {
         );
         // SAFETY: the slice and both places are this call's, and the handle is null.
         let code = unsafe {
-            sys::scaleview_open(
-                bytes.as_ptr(),
-                bytes.len(),
-                metadata,
-                &mut handle,
-                &mut answer,
-            )
+            sys::scaleview_open(bytes.as_ptr(), bytes.len(), flags, &mut handle, &mut answer)
         };
         if code != sys::SCALEVIEW_OK {
             return Err(Error::of(answer));
@@ -126,6 +118,9 @@ impl Registry {
     /// Opens the registry that all the bytes hold: a chain's metadata, version 14 or 15, if they
     /// begin with the four letters `meta`, and otherwise a registry alone. What follows the
     /// registry in metadata is not read. The bytes are not kept.
+    ///
+    /// Values of bit sequences are rejected, unless the registry is opened with
+    /// [`OpenOptions::bits`].
     ///
     /// # Errors
     /// `Registry` at the first error, `UnknownReference` if a type refers to one that doesn't
@@ -151,7 +146,7 @@ impl Registry {
     /// # }
     /// ```
     pub fn open(bytes: &[u8]) -> Result<Registry, Error> {
-        Registry::opened(bytes, bytes.starts_with(METADATA))
+        OpenOptions::new().open(bytes)
     }
 
     /// Opens a registry alone, whatever the bytes begin with.
@@ -159,7 +154,7 @@ impl Registry {
     /// # Errors
     /// As [`open`](Registry::open).
     pub fn open_raw(bytes: &[u8]) -> Result<Registry, Error> {
-        Registry::opened(bytes, false)
+        OpenOptions::new().open_raw(bytes)
     }
 
     /// Opens the registry of a chain's metadata; other bytes are rejected with `NotMetadata`.
@@ -167,7 +162,7 @@ impl Registry {
     /// # Errors
     /// As [`open`](Registry::open).
     pub fn open_metadata(bytes: &[u8]) -> Result<Registry, Error> {
-        Registry::opened(bytes, true)
+        OpenOptions::new().open_metadata(bytes)
     }
 
     /// Makes a call that only reads the registry; others may run at the same time.
@@ -477,7 +472,7 @@ impl Registry {
     }
 
     /// Encodes a value of the type at this position: a decoded [`Value`], a part of one, or an
-    /// [`Item`](crate::Item).
+    /// [`Item`].
     ///
     /// # Errors
     /// `UnknownType`, `Node` with the reason and the node, `UnknownField` and `MissingField` for an
@@ -509,12 +504,17 @@ impl Registry {
         limits: Limits,
     ) -> Result<Vec<u8>, Error> {
         match source.into() {
-            Source::Value(value) => self.encode_nodes(id, value.nodes, value.pool, limits),
-            Source::Item(item) => {
-                let (nodes, pool) = lower(self, id, item)?;
-                self.encode_nodes(id, &nodes, &pool, limits)
-            }
+            Source::Value(value) => match value.as_bits() {
+                Some(bits) => self.encode_item(id, &Item::Bits(bits), limits),
+                None => self.encode_nodes(id, value.nodes, value.pool, limits),
+            },
+            Source::Item(item) => self.encode_item(id, item, limits),
         }
+    }
+
+    fn encode_item(&self, id: TypeId, item: &Item<'_>, limits: Limits) -> Result<Vec<u8>, Error> {
+        let (nodes, pool) = lower(self, id, item)?;
+        self.encode_nodes(id, &nodes, &pool, limits)
     }
 
     fn encode_nodes(

@@ -221,7 +221,7 @@ impl<R: RegistryRef> AnySession<R> {
         self.reported(sys::scaleview_nodes)
     }
 
-    /// Returns the number of bytes of texts and byte runs that are held.
+    /// Returns the number of bytes of texts, byte runs and bit sequences that are held.
     pub fn text_bytes(&self) -> u64 {
         self.reported(sys::scaleview_text_bytes)
     }

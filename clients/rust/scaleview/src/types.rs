@@ -28,7 +28,9 @@ pub enum TypeKind {
     Primitive,
     /// A compact integer: [`Type::element`] is its target.
     Compact,
-    /// A bit sequence: [`Type::element`] is its store. Its values are not supported.
+    /// A bit sequence: [`Type::element`] is its store, and [`Type::order`] names its order. A
+    /// registry that was opened with [`OpenOptions::bits`](crate::OpenOptions::bits) reads its
+    /// values.
     BitSequence,
 }
 
@@ -260,6 +262,11 @@ impl<'r> Type<'r> {
         use TypeKind::{Array, BitSequence, Compact, Sequence};
         matches!(self.kind(), Sequence | Array | Compact | BitSequence)
             .then_some(self.shape.element)
+    }
+
+    /// Returns the type whose path names the order of a bit sequence. It need not exist.
+    pub fn order(self) -> Option<TypeId> {
+        (self.kind() == TypeKind::BitSequence).then_some(self.shape.order)
     }
 
     /// Returns the number of elements of an array.

@@ -1,5 +1,6 @@
 //! A value that is decoded.
 
+use crate::bits::Bits;
 use crate::describe::Details;
 use crate::error::Error;
 use crate::registry::Registry;
@@ -38,8 +39,8 @@ pub struct Value<'r> {
 }
 
 impl<'r> Value<'r> {
-    /// Reads what the registry says of the types of composites and variants, so that no later walk
-    /// has to.
+    /// Reads what the registry says of the types of composites, variants and bit sequences, so that
+    /// no later walk has to.
     pub(crate) fn new(
         registry: &'r Registry,
         nodes: Vec<Node>,
@@ -48,7 +49,7 @@ impl<'r> Value<'r> {
         for node in &nodes {
             if matches!(
                 node.kind,
-                sys::SCALEVIEW_NODE_FIELDS | sys::SCALEVIEW_NODE_ARM
+                sys::SCALEVIEW_NODE_FIELDS | sys::SCALEVIEW_NODE_ARM | sys::SCALEVIEW_NODE_BITS
             ) {
                 registry.details(node.r#type)?;
             }
@@ -148,6 +149,11 @@ impl<'r> Value<'r> {
     pub fn as_bytes(&self) -> Option<&[u8]> {
         self.root().as_bytes()
     }
+
+    /// Does what [`ValueRef::as_bits`] does.
+    pub fn as_bits(&self) -> Option<Bits<'_>> {
+        self.root().as_bits()
+    }
 }
 
 /// Two values are equal if their views are.
@@ -201,6 +207,8 @@ pub enum Kind<'a> {
     List,
     /// A sequence of so many elements that take no bytes.
     Empties(u32),
+    /// A bit sequence.
+    Bits(Bits<'a>),
 }
 
 /// A view of a value or of a part of it. It displays as JSON.
@@ -233,6 +241,16 @@ impl<'a> ValueRef<'a> {
         self.pool
             .get(at..)
             .and_then(|rest| rest.get(..length))
+            .unwrap_or_default()
+    }
+
+    fn bits(self, node: Node) -> Bits<'a> {
+        let at = usize::try_from(node.low).unwrap_or(usize::MAX);
+        let words = self.pool.get(at..).unwrap_or_default();
+        let details = self.registry.details(node.r#type).ok();
+        details
+            .and_then(|details| details.form)
+            .map(|form| Bits::of_words(form, words, node.high as usize))
             .unwrap_or_default()
     }
 
@@ -271,6 +289,7 @@ impl<'a> ValueRef<'a> {
             sys::SCALEVIEW_NODE_FIELDS => Kind::Fields,
             sys::SCALEVIEW_NODE_ARM => Kind::Variant,
             sys::SCALEVIEW_NODE_LIST => Kind::List,
+            sys::SCALEVIEW_NODE_BITS => Kind::Bits(self.bits(node)),
             _ => Kind::Unit,
         }
     }
@@ -496,6 +515,26 @@ impl<'a> ValueRef<'a> {
             None
         }
     }
+
+    /// Returns a bit sequence.
+    ///
+    /// # Examples
+    ///
+    /// ```
+    /// # use scaleview::{Error, OpenOptions};
+    /// # fn main() -> Result<(), Error> {
+    /// // A u8, the order Lsb0, and a bit sequence of both.
+    /// let types = b"\x0c\x00\0\0\x05\x03\0\x04\x04\x10Lsb0\0\0\0\0\x08\0\0\x07\x00\x04\0";
+    /// let registry = OpenOptions::new().bits(true).open(types)?;
+    /// let value = registry.decode(2, b"\x0c\x05")?;
+    /// assert_eq!(value.as_bits().unwrap(), [true, false, true]);
+    /// # Ok(())
+    /// # }
+    /// ```
+    pub fn as_bits(self) -> Option<Bits<'a>> {
+        let node = self.node();
+        (node.kind == sys::SCALEVIEW_NODE_BITS).then(|| self.bits(node))
+    }
 }
 
 /// Two views are equal if their types and what they hold are; the registries aren't compared.
@@ -506,6 +545,10 @@ impl PartialEq for ValueRef<'_> {
             sys::SCALEVIEW_NODE_TEXT | sys::SCALEVIEW_NODE_BYTES | sys::SCALEVIEW_NODE_WIDE => {
                 (one.kind, one.r#type) == (its.kind, its.r#type)
                     && self.bytes(*one) == other.bytes(*its)
+            }
+            sys::SCALEVIEW_NODE_BITS => {
+                (one.kind, one.r#type) == (its.kind, its.r#type)
+                    && self.bits(*one) == other.bits(*its)
             }
             _ => one == its,
         };

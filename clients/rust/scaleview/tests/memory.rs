@@ -3,7 +3,7 @@
 mod common;
 
 use common::*;
-use scaleview::{Error, Item, Limits, Registry};
+use scaleview::{Error, Item, Limits, OpenOptions, Registry};
 use std::alloc::{GlobalAlloc, Layout, System};
 use std::cell::Cell;
 use std::fmt::Write;
@@ -138,6 +138,26 @@ fn each_allocation_may_fail() {
     check("finish", || session.finish().map(|_| ()));
     check("finish_json", || session.finish_json());
     assert_eq!(session.finish_json(), Ok(decoded.to_string()));
+}
+
+#[test]
+fn bit_sequences_may_lack_memory() {
+    let (lsb0, msb0) = (bits(4, "Lsb0"), bits(4, "Msb0"));
+    let open = |types: &[u8]| OpenOptions::new().bits(true).open(types);
+    let item = Item::bits(&[true; 100]);
+    check("encode bits", || open(&lsb0)?.encode(2, &item));
+    let registry = open(&lsb0).unwrap();
+    let bytes = registry.encode(2, &item).unwrap();
+    check("decode bits", || {
+        open(&lsb0).and_then(|registry| registry.decode(2, &bytes).map(|_| ()))
+    });
+    check("decode_json", || registry.decode_json(2, &bytes));
+    let value = registry.decode(2, &bytes).unwrap();
+    let item = Item::bits(value.as_bits().unwrap());
+    check("encode a value's bits", || open(&lsb0)?.encode(2, &item));
+    check("encode in another form", || open(&msb0)?.encode(2, &item));
+    let shown = with_allocations(0, || write!(Fixed(0), "{value} {item:?}"));
+    assert_eq!(shown, Ok(()));
 }
 
 /// An enum of one variant, and a sequence of it: each byte is a node.

@@ -1,7 +1,7 @@
 //! The tables of test vectors: each registry's answer and types, and each value whole and in
 //! pieces, as JSON and as nodes, and back from them.
 
-use scaleview::{Error, Limits, Progress, Registry, Value};
+use scaleview::{Error, Limits, OpenOptions, Progress, Registry, Value};
 use std::collections::HashMap;
 use std::path::PathBuf;
 
@@ -121,7 +121,7 @@ struct Row<'a> {
     limits: Limits,
     bytes: Vec<u8>,
     answer: &'a str,
-    /// Bytes taken, nodes, and bytes of texts and byte runs.
+    /// Bytes taken, nodes, and bytes of texts, byte runs and bit sequences.
     held: (u64, u64, u64),
     json: &'a str,
 }
@@ -198,6 +198,24 @@ impl<'a> Row<'a> {
         let found = session.finish_json().unwrap_or_else(told);
         assert_eq!(found, self.end(), "{} in pieces of {step}", self.name);
     }
+
+    /// The value is answered whole and in pieces, as JSON and as nodes.
+    fn check(&self, registry: &Registry) {
+        let found = registry
+            .decode_json_within(self.id, &self.bytes, self.limits)
+            .unwrap_or_else(told);
+        assert_eq!(found, self.whole(), "{}", self.name);
+        match registry.decode_within(self.id, &self.bytes, self.limits) {
+            Ok(value) => {
+                assert_eq!(value.to_string(), self.whole(), "{}", self.name);
+                self.check_back(registry, &value);
+            }
+            Err(error) => assert_eq!(told(error), self.whole(), "{}", self.name),
+        }
+        for step in [1, 7, 4096] {
+            self.check_pieces(registry, step);
+        }
+    }
 }
 
 #[test]
@@ -209,22 +227,20 @@ fn values_are_answered() {
     let mut count = 0;
     for row in rows(&values) {
         let registry = Registry::open_raw(&by_name[row[1]]).expect("a registry");
-        let row = Row::of(&row);
-        let found = registry
-            .decode_json_within(row.id, &row.bytes, row.limits)
-            .unwrap_or_else(told);
-        assert_eq!(found, row.whole(), "{}", row.name);
-        match registry.decode_within(row.id, &row.bytes, row.limits) {
-            Ok(value) => {
-                assert_eq!(value.to_string(), row.whole(), "{}", row.name);
-                row.check_back(&registry, &value);
-            }
-            Err(error) => assert_eq!(told(error), row.whole(), "{}", row.name),
-        }
-        for step in [1, 7, 4096] {
-            row.check_pieces(&registry, step);
-        }
+        Row::of(&row).check(&registry);
         count += 1;
     }
     assert!(count > 1500);
+}
+
+#[test]
+fn bit_sequences_are_answered() {
+    let options = OpenOptions::new().bits(true);
+    let mut count = 0;
+    for row in rows(&table("bits.tsv")) {
+        let registry = options.open_raw(&bytes_of(row[1])).expect("a registry");
+        Row::of(&row).check(&registry);
+        count += 1;
+    }
+    assert!(count > 250);
 }

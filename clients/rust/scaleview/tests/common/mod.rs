@@ -20,6 +20,30 @@ pub const NAMED: &[u8] = b"\x08\x00\x00\x00\x01\x08\x0cEnd\x00\x00\x00\
     \x10Next\x08\x01\x04b\x00\x00\x00\x01\x04a\x04\x00\x00\x01\x00\x00\
     \x04\x00\x00\x05\x03\x00";
 
+/// Types around a bit sequence, whose store is the primitive of this number, and whose order has
+/// this name of four letters.
+///
+/// | type | |
+/// |---|---|
+/// | 0 | the store |
+/// | 1 | the order |
+/// | 2 | the bit sequence |
+/// | 3 | a composite `{ a: 2, b: 0 }` |
+/// | 4 | a sequence of 2 |
+pub fn bits(store: u8, order: &str) -> Vec<u8> {
+    [
+        b"\x14\x00\0\0\x05".as_slice(),
+        &[store, 0],
+        b"\x04\x08\x18bitvec\x10",
+        order.as_bytes(),
+        b"\0\0\0\0\
+        \x08\0\0\x07\x00\x04\0\
+        \x0c\0\0\0\x08\x01\x04a\x08\0\0\x01\x04b\x00\0\0\0\
+        \x10\0\0\x02\x08\0",
+    ]
+    .concat()
+}
+
 /// The bytes of a value of `CHAIN` of this depth.
 pub fn chain(depth: usize) -> Vec<u8> {
     [vec![1; depth], vec![0]].concat()
