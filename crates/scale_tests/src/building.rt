@@ -20,6 +20,7 @@ pub enum Call<'a> {
     BytesStart(u32),
     BytesPiece(&'a [u8]),
     BytesEnd,
+    Bits(u32, &'a [u8]),
     Unsigned(u128),
     Signed(i128),
     Wide([u8; 32]),
@@ -46,6 +47,12 @@ pub fn checked(alloc: Global, bytes: &[u8]) -> Option<Checked> {
     Checked::new(alloc, registry).ok()
 }
 
+/// Returns the checked registry of these bytes, as [`checked`] does, with bits allowed.
+pub fn checked_with_bits(alloc: Global, bytes: &[u8]) -> Option<Checked> {
+    let (registry, _) = read_registry(alloc, bytes).ok()?;
+    Checked::new(alloc, registry.with_bits()).ok()
+}
+
 /// Makes the call.
 ///
 /// # Errors
@@ -64,6 +71,7 @@ pub fn add<A: Allocator>(builder: &mut Builder<'_, A>, call: Call<'_>) -> Result
         Call::BytesStart(len) => builder.bytes_start(len),
         Call::BytesPiece(piece) => builder.bytes_piece(piece),
         Call::BytesEnd => builder.bytes_end(),
+        Call::Bits(count, bytes) => builder.bits(count, bytes),
         Call::Unsigned(value) => builder.unsigned(value),
         Call::Signed(value) => builder.signed(value),
         Call::Wide(value) => builder.wide(value),

@@ -11,6 +11,7 @@ pub fn decode(id: u32) -> Job
     Job::Decode {
         id,
         metadata: false,
+        bits: false,
         hex: false,
         depth: 64,
     }
@@ -25,11 +26,13 @@ pub fn served(job: Job) -> Job
         Job::Decode {
             id,
             metadata,
+            bits,
             hex,
             depth,
         } => Job::Decode {
             id,
             metadata,
+            bits,
             hex,
             depth: depth.min(1024),
         },

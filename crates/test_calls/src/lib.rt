@@ -4,4 +4,5 @@
 
 pub mod calls;
 pub mod jobs;
+pub mod lines;
 pub mod ran;

@@ -1,7 +1,7 @@
 //! Builders: the calls of each row with their answers, what comes next, and the value they build.
 
 use crate::columns::{is_nothing, parsed};
-use crate::registries::Registries;
+use crate::registries::{Bits, Registries};
 use crate::steps::{ACCEPTED, Action, Step, step_of};
 use crate::way::Way;
 use crate::wrong::{Wrong, check_same, check_text, differing};
@@ -229,6 +229,6 @@ pub(crate) fn check_row(
     columns: &[&str],
 ) -> Result<u64, Wrong> {
     let row = row_of(columns)?;
-    let checked = registries.checked(alloc, columns)?;
+    let checked = registries.checked(alloc, Bits::Allowed, columns)?;
     check_builder(alloc, &checked, row)
 }

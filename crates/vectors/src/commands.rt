@@ -1,13 +1,15 @@
 //! The command: each command line, run over memory.
 
-use crate::columns::{bytes_of, is_nothing, parsed};
+use crate::columns::{bytes_of, parsed};
+use crate::registries::Bits;
 use crate::values::Row;
 use crate::way::Way;
 use crate::wrong::{Wrong, check_bytes, check_same, check_text};
 use scale_core::Sink;
 use scale_tests::paced::{PacedReader, Then};
 use scale_tool::{Device, Job, JobFault, explain, job, unopened};
-use std::alloc::{AllocError, Global};
+use std::alloc::Global;
+use test_calls::lines::{unescaped, words_of};
 use test_calls::ran::{Devices, NONE, Ran, wanted};
 
 /// The most bytes that a device moves in a call: one, and all that a row has.
@@ -33,6 +35,7 @@ pub(crate) fn check_command(alloc: Global, registry: &[u8], row: &Row<'_>) -> Re
     let job = Job::Decode {
         id: row.ty,
         metadata: false,
+        bits: row.bits == Bits::Allowed,
         hex: false,
         depth: row.limits.depth,
     };
@@ -112,29 +115,6 @@ fn ran_words(alloc: Global, files: &FilesOfRow, words: &[&str], step: usize) -> 
     (ran, failed != NONE)
 }
 
-/// Returns the text of a column, in which `\n` stands for a line end and `\\` for a backslash.
-fn unescaped(alloc: Global, column: &str) -> Result<String, AllocError> {
-    let mut text = String::new(alloc);
-    if is_nothing(column) {
-        return Ok(text);
-    }
-    let mut is_escape = false;
-    'chars: for char in column.chars() {
-        match (is_escape, char) {
-            (false, '\\') => is_escape = true,
-            (true, 'n') => {
-                text.push('\n')?;
-                is_escape = false;
-            }
-            (_, char) => {
-                text.push(char)?;
-                is_escape = false;
-            }
-        }
-    }
-    Ok(text)
-}
-
 /// Checks that the run answered as the row says. If the words' parser rejects them, standard error
 /// only has to hold some text.
 fn check_columns(
@@ -155,18 +135,6 @@ fn check_columns(
         return check_same(alloc, way, false, ran.err.is_empty());
     }
     check_bytes(alloc, way, unescaped(alloc, err)?.as_bytes(), &ran.err)
-}
-
-/// Returns the program's name and the words of a line after it.
-fn words_of<'a>(alloc: Global, line: &'a str) -> Result<Vec<&'a str>, AllocError> {
-    let mut words = Vec::new(alloc);
-    words.push("scaleview")?;
-    if !is_nothing(line) {
-        'words: for word in line.split(' ') {
-            words.push(word)?;
-        }
-    }
-    Ok(words)
 }
 
 /// Checks one row. Returns the number of ways in which it was checked.

@@ -22,11 +22,12 @@ use std::rt::Files;
 use std::{fs, io};
 use table::Table;
 
-const TABLES: [Table; 6] = [
+const TABLES: [Table; 7] = [
     Table::Compacts,
     Table::Registries,
     Table::Types,
     Table::Values,
+    Table::Bits,
     Table::Command,
     Table::Builder,
 ];

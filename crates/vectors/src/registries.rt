@@ -151,6 +151,13 @@ pub(crate) fn check_row(alloc: Global, columns: &[&str]) -> Result<u64, Wrong> {
     Ok(check_fronts(alloc, prefix, taken)?.saturating_add(3))
 }
 
+/// Whether bit sequences are read.
+#[derive(Clone, Copy, PartialEq, Eq)]
+pub(crate) enum Bits {
+    Refused,
+    Allowed,
+}
+
 /// A registry of the table: its name, and its bytes in hexadecimal digits.
 #[derive(Clone, Copy)]
 struct Named<'a> {
@@ -175,7 +182,7 @@ impl<'a> Registries<'a> {
         Ok(Registries(named))
     }
 
-    /// Returns the bytes of the registry that the second column of a row names.
+    /// Returns the bytes of the registry that the second column of a row names or spells.
     pub(crate) fn bytes_of(&self, alloc: Global, columns: &[&str]) -> Result<Vec<u8>, Wrong> {
         let name = columns.get(1).copied().unwrap_or("");
         'registries: for registry in &self.0 {
@@ -183,12 +190,21 @@ impl<'a> Registries<'a> {
                 return bytes_of(alloc, registry.digits);
             }
         }
-        Err(Wrong::Column("a registry's name"))
+        bytes_of(alloc, name)
     }
 
-    /// Returns the checked registry that the second column of a row names.
-    pub(crate) fn checked(&self, alloc: Global, columns: &[&str]) -> Result<Checked, Wrong> {
+    /// Returns the registry of a row's second column, checked with bits allowed or without.
+    pub(crate) fn checked(
+        &self,
+        alloc: Global,
+        bits: Bits,
+        columns: &[&str],
+    ) -> Result<Checked, Wrong> {
         let bytes = self.bytes_of(alloc, columns)?;
-        building::checked(alloc, &bytes).ok_or(Wrong::Call("Checked::new"))
+        let checked = match bits {
+            Bits::Allowed => building::checked_with_bits(alloc, &bytes),
+            Bits::Refused => building::checked(alloc, &bytes),
+        };
+        checked.ok_or(Wrong::Call("Checked::new"))
     }
 }

@@ -71,8 +71,16 @@ impl Step<'_> {
             "text" | "text_piece" | "bytes" | "bytes_piece" | "wide" => {
                 bytes_of(alloc, self.argument)
             }
+            "bits" => bytes_of(alloc, self.count_and_words().1),
             _ => Ok(Vec::new(alloc)),
         }
+    }
+
+    /// Returns the number of bits and the bytes of their words, as `COUNT BYTES` spells them.
+    fn count_and_words(&self) -> (&str, &str) {
+        self.argument
+            .split_once(' ')
+            .unwrap_or((self.argument, "-"))
     }
 
     /// Returns the call. `bytes` are the argument's bytes.
@@ -85,6 +93,7 @@ impl Step<'_> {
             "bytes" => Ok(Call::Bytes(bytes)),
             "bytes_piece" => Ok(Call::BytesPiece(bytes)),
             "bytes_end" => Ok(Call::BytesEnd),
+            "bits" => Ok(Call::Bits(parsed(self.count_and_words().0, "a length")?, bytes)),
             "wide" => Ok(Call::Wide(wide_of(bytes)?)),
             "fields" => Ok(Call::Fields),
             _ => self.call_with_number(),

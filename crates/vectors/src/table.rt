@@ -1,6 +1,6 @@
 //! The tables, and how many of their rows are answered correctly.
 
-use crate::registries::Registries;
+use crate::registries::{Bits, Registries};
 use crate::wrong::Wrong;
 use crate::{builder, commands, compacts, registries, types, values};
 use std::alloc::Global;
@@ -13,6 +13,7 @@ pub(crate) enum Table {
     Registries,
     Types,
     Values,
+    Bits,
     Command,
     Builder,
 }
@@ -25,6 +26,7 @@ impl Table {
             Table::Registries => "registries",
             Table::Types => "types",
             Table::Values => "values",
+            Table::Bits => "bits",
             Table::Command => "command",
             Table::Builder => "builder",
         }
@@ -41,7 +43,8 @@ impl Table {
             Table::Compacts => compacts::check_row(alloc, columns),
             Table::Registries => registries::check_row(alloc, columns),
             Table::Types => types::check_row(alloc, registries, columns),
-            Table::Values => values::check_row(alloc, registries, columns),
+            Table::Values => values::check_row(alloc, registries, Bits::Refused, columns),
+            Table::Bits => values::check_row(alloc, registries, Bits::Allowed, columns),
             Table::Command => commands::check_row(alloc, columns),
             Table::Builder => builder::check_row(alloc, registries, columns),
         }

@@ -3,7 +3,7 @@
 
 use crate::columns::{is_nothing, parsed};
 use crate::compacts::target_of;
-use crate::registries::Registries;
+use crate::registries::{Bits, Registries};
 use crate::way::Way;
 use crate::wrong::{Wrong, check_same};
 use registry_core::TypeId;
@@ -103,7 +103,7 @@ pub(crate) fn check_row(
     let [_, _, targets, arms] = columns else {
         return Err(Wrong::Column("one of four"));
     };
-    let checked = registries.checked(alloc, columns)?;
+    let checked = registries.checked(alloc, Bits::Refused, columns)?;
     let arms = arms_of(alloc, arms)?;
     let count = checked.registry().types().len() as u32;
     let targets = check_targets(alloc, &checked, targets)?;

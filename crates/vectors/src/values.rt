@@ -3,7 +3,7 @@
 
 use crate::columns::{bytes_of, parsed};
 use crate::commands::check_command;
-use crate::registries::Registries;
+use crate::registries::{Bits, Registries};
 use crate::shown::{check_forms, check_value};
 use crate::way::Way;
 use crate::wrong::{Wrong, check_same, check_text};
@@ -21,6 +21,8 @@ const LONGEST_IN_THREE: usize = 12;
 /// A value's bytes, and what a decoder should answer once it has them all.
 #[derive(Drop)]
 pub(crate) struct Row<'a> {
+    /// Whether bit sequences are read.
+    pub(crate) bits: Bits,
     pub(crate) ty: u32,
     pub(crate) limits: Limits,
     pub(crate) bytes: Vec<u8>,
@@ -61,7 +63,7 @@ impl Row<'_> {
 }
 
 /// Reads the columns of a row.
-fn row_of<'a>(alloc: Global, columns: &[&'a str]) -> Result<Row<'a>, Wrong> {
+fn row_of<'a>(alloc: Global, bits: Bits, columns: &[&'a str]) -> Result<Row<'a>, Wrong> {
     let [
         _,
         _,
@@ -79,6 +81,7 @@ fn row_of<'a>(alloc: Global, columns: &[&'a str]) -> Result<Row<'a>, Wrong> {
         return Err(Wrong::Column("one of eleven"));
     };
     Ok(Row {
+        bits,
         ty: parsed(ty, "a type")?,
         limits: Limits {
             depth: parsed(depth, "a depth")?,
@@ -376,14 +379,16 @@ fn check_ways(
     Ok(ways)
 }
 
-/// Checks one row. Returns the number of ways in which it was checked.
+/// Checks one row, with bits allowed or without. Returns the number of ways in which it was
+/// checked.
 pub(crate) fn check_row(
     alloc: Global,
     registries: &Registries<'_>,
+    bits: Bits,
     columns: &[&str],
 ) -> Result<u64, Wrong> {
-    let row = row_of(alloc, columns)?;
+    let row = row_of(alloc, bits, columns)?;
     let registry = registries.bytes_of(alloc, columns)?;
-    let checked = registries.checked(alloc, columns)?;
+    let checked = registries.checked(alloc, bits, columns)?;
     check_ways(alloc, &checked, &row, &registry)
 }
