@@ -316,8 +316,9 @@ uint32_t scaleview_decode_nodes(scaleview_registry registry, uint32_t type, uint
  * `answer->length` bytes, which scaleview_decode_nodes turns into the same nodes. No node is deeper than `depth`, up to 1024.
  * `memory` is the most bytes that the library allocates at once for the value and its bytes; 0 stands for no budget.
  *
- * Of a node, `type` is read only if it is a SCALEVIEW_NODE_BITS, and `low` of a composite, a tuple, a variant or a list is not
- * read. Two nodes may have the same bytes of the pool.
+ * Of a node, `type` is read only if it is a SCALEVIEW_NODE_BITS: it has to be the node's own type, which says how many bytes
+ * its words have. `low` of a composite, a tuple, a variant or a list is not read. Two nodes may have the same bytes of the
+ * pool.
  *
  * Otherwise it returns SCALEVIEW_NO_ROOM, SCALEVIEW_UNKNOWN_TYPE, SCALEVIEW_LIMIT_OUT_OF_RANGE, SCALEVIEW_MEMORY,
  * SCALEVIEW_NO_HANDLE, or a code of SCALEVIEW_NODES_* with the position of the first node that is rejected in
