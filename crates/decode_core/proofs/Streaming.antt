@@ -12,7 +12,7 @@ use Rattle.decode_core.specs.Decoding.{AnswersPiece, Decoding, FinishesDecoder, 
 use Rattle.decode_core.specs.Decoding.{OpensDecoder}
 use Rattle.outcome_core.specs.Outcome.{Query, done, more, IsOutcome}
 use Rattle.decode_core.specs.Streaming.{EndsAt, FeedsAll, IsUnderWay, LeavesOpen, Looks}
-use Rattle.decode_core.specs.Streaming.{Gives, ReadOf, StopsOpen, Trails}
+use Rattle.decode_core.specs.Streaming.{ReadsGive, ReadOf, StopsOpen, Trails}
 use Rattle.decode_core.specs.declared.decoder.Progress.{Progress}
 use Rattle.decode_core.specs.declared.decoder.Progress.TheVariants as progress
 use Rattle.decode_core.specs.declared.fault.DecodeFault.{DecodeFault}
@@ -175,8 +175,8 @@ all_known (Some xs) (Some ys) b c end = c ∙ ap (λ (l : List ℕ). b ++ l) end
 
 -- one read more gave its bytes after those before
 pub gives_next : {R : Type 0} (reads : ReadOf R) (old : R) (k : ℕ) (b : List ℕ) (mid : R)
-    (before : List ℕ) (n : ℕ) (part : List ℕ) (new : R) → Gives reads old k b mid →
-    reads mid before (Some n) part new → Gives reads old (suc k) (b ++ take n part) new
+    (before : List ℕ) (n : ℕ) (part : List ℕ) (new : R) → ReadsGive reads old k b mid →
+    reads mid before (Some n) part new → ReadsGive reads old (suc k) (b ++ take n part) new
 gives_next reads old k b mid before n part new g r = (b, mid, g, before, n, part, r, refl)
 
 -- a read that failed consumed nothing

@@ -43,9 +43,10 @@ ReadOf R = R → List ℕ → Option ℕ → List ℕ → R → Type 0
 
 -- so many reads, none of which failed, returned these bytes and led from one state of the reader to
 -- the other
-abbrev pub Gives : {R : Type 0} → ReadOf R → R → ℕ → List ℕ → R → Type 0
-Gives reads old zero b new = (b ≡ []) × (new ≡ old)
-Gives {R} reads old (suc k) b new = (front : List ℕ) × (mid : R) × Gives reads old k front mid
+abbrev pub ReadsGive : {R : Type 0} → ReadOf R → R → ℕ → List ℕ → R → Type 0
+ReadsGive reads old zero b new = (b ≡ []) × (new ≡ old)
+ReadsGive {R} reads old (suc k) b new = (front : List ℕ) × (mid : R)
+    × ReadsGive reads old k front mid
     × (before : List ℕ) × (n : ℕ) × (part : List ℕ) × reads mid before (Some n) part new
     × (b ≡ front ++ take n part)
 
@@ -55,7 +56,7 @@ FailsAt reads old new = (before : List ℕ) × (part : List ℕ) × reads old be
 
 -- these bytes were read, and the next read failed
 abbrev pub FailsAfter : {R : Type 0} → ReadOf R → R → R → List ℕ → Type 0
-FailsAfter {R} reads old new b = (mid : R) × (k : ℕ) × Gives reads old k b mid
+FailsAfter {R} reads old new b = (mid : R) × (k : ℕ) × ReadsGive reads old k b mid
     × FailsAt reads mid new
 
 -- the bytes read before a failed read are those that the reader no longer has, and they leave the

@@ -55,13 +55,13 @@ IsBare form.Fields = Unit {0}
 IsBare (form.Array n) = Unit {0}
 IsBare _ = ⊥
 
-abbrev pub IsNoText : PrimitiveKind → Type 0
-IsNoText K.Str = ⊥
-IsNoText _ = Unit {0}
+abbrev pub IsNoTextKind : PrimitiveKind → Type 0
+IsNoTextKind K.Str = ⊥
+IsNoTextKind _ = Unit {0}
 
 -- neither a text nor a run of bytes, nor a bit sequence
 abbrev pub NoRun : Form → Type 0
-NoRun (form.Primitive p) = IsNoText (kind_of p)
+NoRun (form.Primitive p) = IsNoTextKind (kind_of p)
 NoRun form.Bytes = ⊥
 NoRun (form.ByteArray n) = ⊥
 NoRun (form.Bits f) = ⊥

@@ -9,7 +9,8 @@ use Rattle.types_core.specs.declared.type_info.TypeInfo.{TypeInfo}
 use Rattle.grammar_core.specs.Tree.{Tree, levels}
 use Rattle.grammar_core.specs.Grammar.{Val}
 use Rattle.grammar_core.specs.Reading.{value_at, Refusal, truncated}
-use Rattle.grammar_core.specs.Laws.{Stands, Fails, ValueIsRead, ReadIsValue, ValuesArePrefixFree}
+use Rattle.grammar_core.specs.Laws.{ValueStands, ValueFails, ValueIsRead, ReadIsValue}
+use Rattle.grammar_core.specs.Laws.{ValuesArePrefixFree}
 use Rattle.grammar_core.specs.Laws.{ValueOrFault, ValueOrFaultNotBoth, FaultsAreStable}
 use Rattle.grammar_core.proofs.Complete.{value_again}
 use Rattle.grammar_core.proofs.Sound.{value_takes}
@@ -22,7 +23,7 @@ value_is_read = value_again
 -- a value that was taken from the front, and for which there is room, stands there
 stands_of : (r : List TypeInfo) (room t : ℕ) (b : List ℕ) (read : Read Refusal Tree) (v : Tree)
     (rest : List ℕ) → Takes (λ v c. Val r t v c × (levels v ≤ room)) b read → read ≡ Ok (v, rest) →
-    Stands r room t b v rest
+    ValueStands r room t b v rest
 stands_of r room t b (Err e) v rest h eq = absurd cc
 stands_of r room t b (Ok x) v rest h eq =
     let same = done_is {E = Refusal} x (v, rest) eq in (
@@ -52,8 +53,8 @@ prefix_free r t v w a b rest more h k e =
 
 -- by what is read, a value stands on the front of the input, or the input is refused
 either : (r : List TypeInfo) (room t : ℕ) (b : List ℕ) (read : Read Refusal Tree) →
-    value_at r room t b ≡ read → ((v : Tree) × (rest : List ℕ) × Stands r room t b v rest)
-    ⊎ ((reason : Refusal) × (left : List ℕ) × Fails r room t b reason left)
+    value_at r room t b ≡ read → ((v : Tree) × (rest : List ℕ) × ValueStands r room t b v rest)
+    ⊎ ((reason : Refusal) × (left : List ℕ) × ValueFails r room t b reason left)
 either r room t b (Ok x) e = inl (x.0, x.1, read_is_value r room t b x.0 x.1 e)
 either r room t b (Err x) e = inr (x.0, x.1, e)
 

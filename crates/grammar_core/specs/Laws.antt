@@ -17,13 +17,13 @@ use Rattle.grammar_core.specs.Parts.{Part, first_of}
 use Rattle.grammar_core.specs.Reading.{value_at, part_at, Refusal, truncated}
 
 -- a value of at most `room` levels stands at the front of the input, and `rest` is after it
-abbrev pub Stands : List TypeInfo → ℕ → ℕ → List ℕ → Tree → List ℕ → Type 0
-Stands r room t input v rest = (front : List ℕ) × (input ≡ front ++ rest) × Val r t v front
+abbrev pub ValueStands : List TypeInfo → ℕ → ℕ → List ℕ → Tree → List ℕ → Type 0
+ValueStands r room t input v rest = (front : List ℕ) × (input ≡ front ++ rest) × Val r t v front
     × (levels v ≤ room)
 
 -- the input is rejected, and `left` is its bytes from the fault's place on
-abbrev pub Fails : List TypeInfo → ℕ → ℕ → List ℕ → Refusal → List ℕ → Type 0
-Fails r room t input reason left = value_at r room t input ≡ Err (reason, left)
+abbrev pub ValueFails : List TypeInfo → ℕ → ℕ → List ℕ → Refusal → List ℕ → Type 0
+ValueFails r room t input reason left = value_at r room t input ≡ Err (reason, left)
 
 -- the bytes of a value are read as that value, whatever follows them
 abbrev pub ValueIsRead : Type 0
@@ -33,7 +33,7 @@ ValueIsRead = (r : List TypeInfo) (room t : ℕ) (v : Tree) (b rest : List ℕ) 
 -- whatever is read is a value at the front of the input
 abbrev pub ReadIsValue : Type 0
 ReadIsValue = (r : List TypeInfo) (room t : ℕ) (input : List ℕ) (v : Tree) (rest : List ℕ) →
-    value_at r room t input ≡ Ok (v, rest) → Stands r room t input v rest
+    value_at r room t input ≡ Ok (v, rest) → ValueStands r room t input v rest
 
 -- two values of a type are equal if the bytes of both are fronts of one list
 abbrev pub ValuesArePrefixFree : Type 0
@@ -48,20 +48,20 @@ OneSpelling = (r : List TypeInfo) (t : ℕ) (v : Tree) (a b : List ℕ) → AreB
 -- a value stands at the front of the input, or the input is rejected
 abbrev pub ValueOrFault : Type 0
 ValueOrFault = (r : List TypeInfo) (room t : ℕ) (input : List ℕ) →
-    ((v : Tree) × (rest : List ℕ) × Stands r room t input v rest)
-    ⊎ ((reason : Refusal) × (left : List ℕ) × Fails r room t input reason left)
+    ((v : Tree) × (rest : List ℕ) × ValueStands r room t input v rest)
+    ⊎ ((reason : Refusal) × (left : List ℕ) × ValueFails r room t input reason left)
 
 -- and never both
 abbrev pub ValueOrFaultNotBoth : Type 0
 ValueOrFaultNotBoth = (r : List TypeInfo) (room t : ℕ) (input : List ℕ) (v : Tree) (rest : List ℕ)
-    (reason : Refusal) (left : List ℕ) → Stands r room t input v rest →
-    Fails r room t input reason left → ⊥
+    (reason : Refusal) (left : List ℕ) → ValueStands r room t input v rest →
+    ValueFails r room t input reason left → ⊥
 
 -- a fault other than Truncated is also the fault of every longer input
 abbrev pub FaultsAreStable : Type 0
 FaultsAreStable = (r : List TypeInfo) (room t : ℕ) (input more : List ℕ) (reason : Refusal)
-    (left : List ℕ) → reason ≢ truncated → Fails r room t input reason left →
-    Fails r room t (input ++ more) reason (left ++ more)
+    (left : List ℕ) → reason ≢ truncated → ValueFails r room t input reason left →
+    ValueFails r room t (input ++ more) reason (left ++ more)
 
 -- a type that takes no bytes is finite and has exactly one value, which has no bytes
 abbrev pub EmptyHasUnit : Type 0
@@ -110,7 +110,7 @@ FiniteHasValue = (r : List TypeInfo) (t : ℕ) → FitsRegistry r → IsFinite r
 abbrev pub NextPartFails : List TypeInfo → ℕ → Part → List ℕ → Refusal → List ℕ → Type 0
 NextPartFails r room p input reason left = (vs : Trees) × (back : Part) × (u : ℕ)
     × (b1 b2 : List ℕ) × FirstValues r p vs b1 back × (first_of back ≡ Some u)
-    × (input ≡ b1 ++ b2) × (most_levels vs ≤ room) × Fails r room u b2 reason left
+    × (input ≡ b1 ++ b2) × (most_levels vs ≤ room) × ValueFails r room u b2 reason left
 
 -- reading parts fails exactly if, after values of the first ones, the next one fails with that
 -- fault

@@ -60,7 +60,7 @@ use Rattle.json_core.specs.Defined.{defined_arm, composite_fields}
 use Rattle.json_core.specs.Json.{json_of, json_seen, all_json, each_json, unsigned_json}
 use Rattle.json_core.specs.Json.{signed_json, unsigned_data, signed_data, bytes_json, wide_json}
 use Rattle.json_core.specs.Json.{parts_json, fields_json, arm_json, arm_at_position, arm_types}
-use Rattle.json_core.specs.Json.{bit_form, bits_json, part_types, element_type}
+use Rattle.json_core.specs.Json.{declared_bits, bits_json, part_types, element_type}
 use Rattle.json_core.proofs.Children.{jsons, all_is, each_is}
 
 -- ---- what the layout of a type says of its definition
@@ -194,7 +194,7 @@ JsonReported r t v (what.Signed z) = (integer_json (shape r t) ≡ shown.Number 
     × (json_of r t v ≡ signed_by (integer_json (shape r t)) z)
 JsonReported r t v (what.Wide s) = json_of r t v ≡ wide_json s
 JsonReported r t v (what.Bits n) = (s : List ℕ) × (words_of v ≡ Some s)
-    × (json_of r t v ≡ bits_json (bit_form (shape r t)) n s)
+    × (json_of r t v ≡ bits_json (declared_bits (shape r t)) n s)
 JsonReported r t v (what.Compact n) =
     (compact_json (compact_target_of r t) ≡ shown.Number → n < 2 ^ 64)
     × (json_of r t v ≡ unsigned_by (compact_json (compact_target_of r t)) n)
@@ -351,11 +351,11 @@ bytes_are s found bytes e f h =
 pub bits_are : (s : Seen) (n : ℕ) (found : Option (Bor (List ℕ))) (bytes : Bor (List ℕ)) →
     option_map (λ x. x.now) found ≡ words_of s.tree → found ≡ Some bytes →
     JsonReported s.types s.ty s.tree (what.Bits n) →
-    json_seen s ≡ bits_json (bit_form (shape s.types s.ty)) n bytes.now
+    json_seen s ≡ bits_json (declared_bits (shape s.types s.ty)) n bytes.now
 bits_are s n found bytes e f h =
     let same : Some bytes.now ≡ Some h.0 = sym (found_is e f) ∙ h.1 in
     let is : bytes.now ≡ h.0 = cc in
-    h.2 ∙ ap (bits_json (bit_form (shape s.types s.ty)) n) (sym is)
+    h.2 ∙ ap (bits_json (declared_bits (shape s.types s.ty)) n) (sym is)
 
 -- a composite's value has the JSON of its fields
 pub fields_are : (s : Seen) (fs : List Field) → composite_fields (shape s.types s.ty) ≡ Some fs →

@@ -6,7 +6,7 @@ ghost use Rattle.graph_core.specs.Types.{shape};
 ghost use Rattle.types_core.specs.Kinds.{kind_of};
 ghost use Rattle.json_core.specs.Defined.{kind_json, integer_json, compact_json, defined_arm};
 ghost use Rattle.json_core.specs.Defined.{composite_fields};
-ghost use Rattle.json_core.specs.Json.{bit_form};
+ghost use Rattle.json_core.specs.Json.{declared_bits};
 
 use crate::integer_json::IntegerJson;
 use types_core::{Arm, BitForm, Fields, Primitive, PrimitiveKind, TypeDef};
@@ -58,7 +58,7 @@ pub(crate) fn defined_arm<'r>(node: &NodeRef<'_, 'r>, position: u32) -> Option<&
 /// Returns where the bits of the node's type stand in their words, if that is a bit sequence whose
 /// words are known.
 pub(crate) fn bit_form(node: &NodeRef<'_, '_>) -> Option<BitForm>
-    ensures { result ≡ bit_form (shape node.now.types node.now.ty) }
+    ensures { result ≡ declared_bits (shape node.now.types node.now.ty) }
 {
     match node.checked().shape(node.type_id()) {
         Some(TypeDef::BitSequence { form, .. }) => *form,

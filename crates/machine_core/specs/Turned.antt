@@ -214,10 +214,10 @@ pub record Awaits (s : Running) (f : Form) : Type 0 where
   pub sound : IsSound s
 
 -- an element of a list was added: the same form is next, and one element fewer follows it
-abbrev pub GoesOn : Form → Running → Running → Tried → Type 0
-GoesOn f old new (tried.Added n) = Awaits new f × (new.carry ≡ [])
+abbrev pub ListGoesOn : Form → Running → Running → Tried → Type 0
+ListGoesOn f old new (tried.Added n) = Awaits new f × (new.carry ≡ [])
     × (elements_after new.built.walk + 1 ≡ elements_after old.built.walk)
-GoesOn f old new _ = Unit {0}
+ListGoesOn f old new _ = Unit {0}
 
 -- turns on a piece: those before the last one took n bytes without stopping, and the last one did
 -- this

@@ -10,7 +10,7 @@ ghost use Rattle.form_core.specs.NodeForms.{form_of_bytes};
 ghost use Rattle.form_core.specs.Needs.{IsBare};
 ghost use Rattle.machine_core.specs.NodeAdds.{IsWholeLeaf};
 ghost use Rattle.machine_core.specs.Running.{IsCarry};
-ghost use Rattle.machine_core.specs.Turned.{Awaits, GoesOn};
+ghost use Rattle.machine_core.specs.Turned.{Awaits, ListGoesOn};
 ghost use Rattle.machine_core.specs.Turned.{HasParts, WholeReports, WholeTurnsReport};
 
 use crate::general_turn::take_node;
@@ -86,7 +86,7 @@ impl<'r, A: Allocator> Partial<'r, A> {
         requires empty { self.old.carry ≡ [] }
         requires follows { 1 ≤ elements_after self.old.built.walk }
         ensures reports { WholeReports self.old self.new piece.now result }
-        ensures goes_on { GoesOn (form_of_front (F.front form)) self.old self.new result }
+        ensures goes_on { ListGoesOn (form_of_front (F.front form)) self.old self.new result }
     {
         let Some((leaf, count)) = form.leaf_at_front(piece) else {
             return Tried::Untouched;

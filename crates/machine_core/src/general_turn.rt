@@ -5,7 +5,7 @@ ghost use Rattle.std.specs.Prelude.{None, IsSome, Ok};
 ghost use Rattle.machine_core.specs.Running.{IsCarry, IsRunNext};
 ghost use Rattle.value_core.specs.Walked.{next_of};
 ghost use Rattle.value_core.specs.Built.{pieces_bytes, unused_in};
-ghost use Rattle.value_core.specs.Refusals.{Lacks, is_complete};
+ghost use Rattle.value_core.specs.Refusals.{RunLacks, is_complete};
 ghost use Rattle.grammar_core.specs.Runs.{run_form};
 ghost use Rattle.form_core.specs.Needs.{AreOwn, HasBytes, IsBare, IsNeeded};
 ghost use Rattle.form_core.specs.NodeForms.{form_of_bytes};
@@ -204,7 +204,7 @@ impl<'r, A: Allocator> Partial<'r, A> {
     /// Appends the bytes that the open run lacks, and ends it.
     fn run_rest(&mut self, rest: &[u8]) -> Result<usize, Stopped>
         requires next { IsRunNext self.old.built self.old.carry self.old.built.run }
-        requires lacks { Lacks self.old.built.run (length rest.now) }
+        requires lacks { RunLacks self.old.built.run (length rest.now) }
         requires clean { unused_in self.old.built.run rest.now ≡ None }
         requires some { 1 ≤ length rest.now }
         ensures reports { (later : List ℕ) →
@@ -220,7 +220,7 @@ impl<'r, A: Allocator> Partial<'r, A> {
     /// Moves up to `missing` bytes of the piece, those the open run lacks, to it.
     fn run_piece(&mut self, missing: usize, piece: &[u8]) -> Result<usize, Stopped>
         requires next { IsRunNext self.old.built self.old.carry self.old.built.run }
-        requires lacks { Lacks self.old.built.run missing }
+        requires lacks { RunLacks self.old.built.run missing }
         requires clean { unused_in self.old.built.run (take missing piece.now) ≡ None }
         requires some { 1 ≤ missing }
         requires there { 1 ≤ length piece.now }
@@ -237,7 +237,7 @@ impl<'r, A: Allocator> Partial<'r, A> {
     /// Ends the open run, which is complete; its last `count` bytes came in this turn.
     fn run_end(&mut self, count: usize) -> Result<usize, Stopped>
         requires next { IsRunNext self.old.built self.old.carry self.old.built.run }
-        requires whole { Lacks self.old.built.run 0 }
+        requires whole { RunLacks self.old.built.run 0 }
         requires last { count ≤ length (pieces_bytes self.old.built.run) }
         ensures reports { EndReports self.old self.new count result }
         ensures kept { KeepsTurns self.old self.new result }

@@ -8,7 +8,7 @@ use Rattle.grammar_core.specs.Tree.{Tree, levels}
 use Rattle.grammar_core.specs.Grammar.{Val}
 use Rattle.grammar_core.specs.Reading.{value_at, Refusal, basic, no_such_variant, too_deep}
 use Rattle.grammar_core.specs.Reading.{no_finite_value, bit_sequence, bad_compact, truncated}
-use Rattle.grammar_core.specs.Laws.{Fails}
+use Rattle.grammar_core.specs.Laws.{ValueFails}
 use Rattle.outcome_core.specs.Taken.{value_taken}
 
 pub data Outcome : Type 0 where
@@ -32,7 +32,8 @@ pub record IsShortest (P : List ℕ → Type 0) (input : List ℕ) (n : ℕ) : T
 
 -- the input is rejected with this reason at this place
 abbrev pub FailsAt : Query → Refusal → ℕ → List ℕ → Type 0
-FailsAt j reason at input = (left : List ℕ) × Fails j.registry (suc j.depth) j.ty input reason left
+FailsAt j reason at input = (left : List ℕ)
+    × ValueFails j.registry (suc j.depth) j.ty input reason left
     × (place input left ≡ at)
 
 -- the outcome of the input, and how many bytes of it were taken
@@ -124,5 +125,5 @@ IsTakenBefore bad_compact left at taken = taken ≡ at
 
 abbrev pub TakenByFault : Type 0
 TakenByFault = (r : List TypeInfo) (room t : ℕ) (input : List ℕ) (reason : Refusal)
-    (left : List ℕ) → Fails r room t input reason left →
+    (left : List ℕ) → ValueFails r room t input reason left →
     IsTakenBefore reason left (place input left) (value_taken r room t input)

@@ -19,7 +19,7 @@ use Rattle.value_core.specs.Refusals.{Adds, judged, suits_signed, suits_text}
 use Rattle.value_core.specs.declared.build_fault.BuildFault.{BuildFault}
 use Rattle.value_core.specs.declared.build_fault.BuildFault.TheVariants as fault
 use Rattle.record_core.specs.Records.{number_of, pooled_head, range_of, scalar_head}
-use Rattle.record_core.specs.Replayed.{first_fault, judged_node, pooled_fault, scalar_fault}
+use Rattle.record_core.specs.Replayed.{earlier_fault, judged_node, pooled_fault, scalar_fault}
 use Rattle.record_core.specs.Replayed.{with_node}
 use Rattle.record_core.specs.declared.record.Record.{Record}
 
@@ -32,7 +32,8 @@ inside pool r h = le-ltb (length pool) (r.low + r.high) (omega (arith, h))
 pub text_adds : (pool s : List ℕ) (r : Record) (b new : Built) (x : Result (Unit {0}) BuildFault) →
     r.kind ≡ 7 → r.low + r.high ≤ length pool → s ≡ range_of pool r → IsUtf8 s →
     Adds (judged (suits_text s) b) (with_leaf b (head.leaf (tree.text s))) b new x →
-    Adds (first_fault (pooled_fault pool r) (judged_node (pooled_head r.kind (range_of pool r)) b))
+    Adds (earlier_fault (pooled_fault pool r)
+    (judged_node (pooled_head r.kind (range_of pool r)) b))
     (with_node (pooled_head r.kind (range_of pool r)) b) b new x
 text_adds pool s r b new x kind fits is valid h =
     let good : is_utf8 (range_of pool r) ≡ true = is_utf8-from_IsUtf8 (range_of pool r)
@@ -49,7 +50,8 @@ not_utf8 s h = by (is_utf8 s) refl where
 -- a text that is not UTF-8 is rejected, with the length of its longest valid front
 pub bad_text_rejected : (pool s : List ℕ) (r : Record) (b : Built) (n : ℕ) → r.kind ≡ 7 →
     r.low + r.high ≤ length pool → s ≡ range_of pool r → (IsUtf8 s → ⊥) → n ≡ utf8_valid_len s →
-    Adds (first_fault (pooled_fault pool r) (judged_node (pooled_head r.kind (range_of pool r)) b))
+    Adds (earlier_fault (pooled_fault pool r)
+    (judged_node (pooled_head r.kind (range_of pool r)) b))
     (with_node (pooled_head r.kind (range_of pool r)) b) b b (Err (fault.BadText n))
 bad_text_rejected pool s r b n kind fits is invalid valid =
     let bad : is_utf8 (range_of pool r) ≡ false = not_utf8 (range_of pool r)
@@ -69,7 +71,7 @@ pub signed_adds : (r : Record) (b new : Built) (x : Result (Unit {0}) BuildFault
     r.kind ≡ 4 → n ≡ number_of r → n < 2 ^ 128 → y ≡ cast_signed w128 n →
     z ≡ cast_signed w128 (cast_unsigned w128 y) →
     Adds (judged (suits_signed z) b) (with_leaf b (head.leaf (tree.signed z))) b new x →
-    Adds (first_fault (scalar_fault r) (judged_node (scalar_head r) b))
+    Adds (earlier_fault (scalar_fault r) (judged_node (scalar_head r) b))
     (with_node (scalar_head r) b) b new x
 signed_adds r b new x n y z kind is small cast back h =
     let same : z ≡ signed_from (number_of r) =

@@ -15,7 +15,8 @@ use Rattle.grammar_core.specs.Tree as tree
 use Rattle.node_core.specs.Shown.{signed_from}
 use Rattle.node_core.proofs.CellsOf.{cells_preorder}
 use Rattle.node_core.proofs.Words.{signed_same}
-use Rattle.record_core.specs.Records.{RecordsAreTree, head_of, nodes_of, pool_bytes, pool_of}
+use Rattle.record_core.specs.Records.{RecordsAreTree, record_head, nodes_of, head_pool_bytes}
+use Rattle.record_core.specs.Records.{pool_of}
 use Rattle.record_core.specs.Records.{record_of, records_from}
 use Rattle.record_core.proofs.Fitting.{CellsFit, FitsHead, cells_fit}
 
@@ -38,9 +39,9 @@ halves_are n = omega arith
 -- a node is read back from its record, where its bytes stand in the pool
 head_back : (r : List TypeInfo) (front rest : List ℕ) (at : ℕ) (c : Cell) → at ≡ length front →
     FitsHead (shape r c.ty) c.head →
-    head_of r (front ++ (pool_bytes c.head ++ rest)) (record_of at c) ≡ c.head
+    record_head r (front ++ (head_pool_bytes c.head ++ rest)) (record_of at c) ≡ c.head
 head_back r front rest at c e fits = by c.head fits where
-  by : (h : Head) → FitsHead (shape r c.ty) h → head_of r (front ++ (pool_bytes h ++ rest))
+  by : (h : Head) → FitsHead (shape r c.ty) h → record_head r (front ++ (head_pool_bytes h ++ rest))
       (record_of at (record { ty = c.ty; head = h; size = c.size })) ≡ h
   by (head.leaf tree.unit) f = refl
   by (head.leaf (tree.bool true)) f = refl
@@ -74,18 +75,18 @@ bare cs = map (λ (c : Cell). c.head) cs
 -- all nodes are read back from their records, after what stands in front of their bytes
 heads_back : (r : List TypeInfo) (front : List ℕ) (at : ℕ) (cs : List Cell) →
     at ≡ length front → CellsFit r cs →
-    map (head_of r (front ++ pool_of cs)) (records_from at cs) ≡ bare cs
+    map (record_head r (front ++ pool_of cs)) (records_from at cs) ≡ bare cs
 heads_back r front at [] e f = refl
 heads_back r front at (c ∷ cs) e f =
-    let own = pool_bytes c.head in
+    let own = head_pool_bytes c.head in
     let again : front ++ (own ++ pool_of cs) ≡ (front ++ own) ++ pool_of cs =
     sym (append_assoc front own (pool_of cs)) in
     let long : at + length own ≡ length (front ++ own) =
     omega (arith, e, length-append front own) in
-    ap (λ (h : Head). h ∷ map (head_of r (front ++ (own ++ pool_of cs)))
+    ap (λ (h : Head). h ∷ map (record_head r (front ++ (own ++ pool_of cs)))
     (records_from (at + length own) cs)) (head_back r front (pool_of cs) at c e f.0)
     ∙ ap (λ (hs : List Head). c.head ∷ hs)
-    (ap (λ (pool : List ℕ). map (head_of r pool) (records_from (at + length own) cs)) again
+    (ap (λ (pool : List ℕ). map (record_head r pool) (records_from (at + length own) cs)) again
     ∙ heads_back r (front ++ own) (at + length own) cs long f.1)
 
 -- the records of a value and its pool, read back, are its tree

@@ -29,10 +29,10 @@ use Rattle.value_core.specs.Refusals.{placed_fault, suits_arm_at}
 use Rattle.value_core.specs.Refusals.{suits_fields_of, wanted_of}
 use Rattle.value_core.specs.declared.build_fault.BuildFault.{BuildFault}
 use Rattle.value_core.specs.declared.build_fault.BuildFault.TheVariants as fault
-use Rattle.record_core.specs.Records.{head_of, tree_read}
-use Rattle.record_core.specs.Replayed.{ReadsRecords, ended, ended_at, first_fault, judged_node}
+use Rattle.record_core.specs.Records.{record_head, tree_read}
+use Rattle.record_core.specs.Replayed.{ReadsRecords, ended, ended_at, earlier_fault, judged_node}
 use Rattle.record_core.specs.Replayed.{own_fault, record_fault, replay, start_with}
-use Rattle.record_core.specs.Replayed.{unless_fault, with_node, with_record}
+use Rattle.record_core.specs.Replayed.{fault_or_later, with_node, with_record}
 use Rattle.record_core.specs.declared.record.Record.{Record}
 use Rattle.record_core.specs.declared.replaying.RecordFault.TheVariants as records
 
@@ -40,7 +40,7 @@ use Rattle.record_core.specs.declared.replaying.RecordFault.TheVariants as recor
 
 -- where the first record passed, no fault was its own, and the rest gave what all gave
 passed : (o : Option BuildFault) (x : Result Built (ℕ × BuildFault)) (b : Built) →
-    unless_fault o x ≡ Ok b → (o ≡ None) × (x ≡ Ok b)
+    fault_or_later o x ≡ Ok b → (o ≡ None) × (x ≡ Ok b)
 passed None (Ok c) b e = (refl, e)
 passed None (Err x) b e = absurd cc
 passed (Some f) x b e = absurd cc
@@ -234,7 +234,7 @@ node_added (head.branch tree.list n) b e =
     record { shows = one_more b.entries _; types = refl; ty = refl }
 
 -- a record without fault of its own is judged as its node
-second : (o p : Option BuildFault) → first_fault o p ≡ None → p ≡ None
+second : (o p : Option BuildFault) → earlier_fault o p ≡ None → p ≡ None
 second None p e = e
 second (Some f) p e = absurd cc
 
@@ -247,7 +247,7 @@ pub record ShowsAll (old new : Built) (hs : List Head) : Type 0 where
 -- where all records passed, the nodes are theirs
 all_shown : (types : List TypeInfo) (pool : List ℕ) (rs : List Record) (b0 b : Built) →
     replay types pool rs b0 ≡ Ok b →
-    ShowsAll b0 b (map (head_of types pool) rs)
+    ShowsAll b0 b (map (record_head types pool) rs)
 all_shown types pool [] b0 b e =
     let same : b0 ≡ b = cc in
     subst (λ (c : Built). ShowsAll b0 c []) same
@@ -256,12 +256,13 @@ all_shown types pool (r ∷ rs) b0 b e =
     let first = passed (record_fault types pool r b0)
     (replay types pool rs (with_record types pool r b0)) b e
     in
-    let one = node_added (head_of types pool r) b0 (second (own_fault types pool r) _ first.0) in
+    let one = node_added (record_head types pool r) b0
+    (second (own_fault types pool r) _ first.0) in
     let more = all_shown types pool rs (with_record types pool r b0) b first.1 in
     record {
-      shows = more.shows ∙ ap (λ (hs : List Head). hs ++ map (head_of types pool) rs) one.shows
-          ∙ append_assoc (heads b0) (head_of types pool r ∷ [])
-          (map (head_of types pool) rs);
+      shows = more.shows ∙ ap (λ (hs : List Head). hs ++ map (record_head types pool) rs) one.shows
+          ∙ append_assoc (heads b0) (record_head types pool r ∷ [])
+          (map (record_head types pool) rs);
       types = more.types ∙ one.types;
       ty = more.ty ∙ one.ty;
     }

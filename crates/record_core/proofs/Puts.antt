@@ -11,13 +11,13 @@ use Rattle.node_core.specs.Encoding.{pool_bytes as kept_in}
 use Rattle.node_core.specs.declared.node.Content.{Content}
 use Rattle.node_core.specs.declared.node.Content.TheVariants as is
 use Rattle.node_core.specs.declared.node.Node.{Node}
-use Rattle.record_core.specs.Records.{pool_bytes, pool_of, record_of, records_from}
+use Rattle.record_core.specs.Records.{head_pool_bytes, pool_of, record_of, records_from}
 use Rattle.record_core.specs.Written.{StandsIn}
 use Rattle.record_core.specs.declared.record.Record.{Record}
 
 -- the bytes that a node has in the pool are those of the node that is shown
 pub kept_is : (bytes : List ℕ) (n : ℕ) (c : Content) →
-    kept_in bytes c ≡ pool_bytes (head_shown bytes n c)
+    kept_in bytes c ≡ head_pool_bytes (head_shown bytes n c)
 kept_is bytes n (is.Text len start) = refl
 kept_is bytes n (is.Bytes len start) = refl
 kept_is bytes n (is.Wide start) = refl
@@ -30,12 +30,13 @@ records_more : (at : ℕ) (cs : List Cell) (c : Cell) → records_from at (cs ++
 records_more at [] c = let same : at ≡ at + 0 = omega arith in
     ap (λ (n : ℕ). record_of n c ∷ []) same
 records_more at (d ∷ cs) c =
-    let same : at + length (pool_bytes d.head) + length (pool_of cs)
+    let same : at + length (head_pool_bytes d.head) + length (pool_of cs)
     ≡ at + length (pool_of (d ∷ cs)) =
-    omega (arith, length-append (pool_bytes d.head) (pool_of cs)) in
+    omega (arith, length-append (head_pool_bytes d.head) (pool_of cs)) in
     ap (λ (rs : List Record). record_of at d ∷ rs)
-    (records_more (at + length (pool_bytes d.head)) cs c
-    ∙ ap (λ (n : ℕ). records_from (at + length (pool_bytes d.head)) cs ++ record_of n c ∷ []) same)
+    (records_more (at + length (head_pool_bytes d.head)) cs c
+    ∙ ap (λ (n : ℕ). records_from (at + length (head_pool_bytes d.head)) cs
+    ++ record_of n c ∷ []) same)
 
 -- the same from the start of the pool
 records_first : (cs : List Cell) (c : Cell) → records_from 0 (cs ++ c ∷ [])
@@ -46,13 +47,14 @@ records_first cs c = let same : 0 + length (pool_of cs) ≡ length (pool_of cs) 
 -- there are as many records as nodes
 pub records_length : (at : ℕ) (cs : List Cell) → length (records_from at cs) ≡ length cs
 records_length at [] = refl
-records_length at (c ∷ cs) = ap suc (records_length (at + length (pool_bytes c.head)) cs)
+records_length at (c ∷ cs) = ap suc (records_length (at + length (head_pool_bytes c.head)) cs)
 
 -- the bytes of nodes and one more are those of the nodes and then its own
-pool_more : (cs : List Cell) (c : Cell) → pool_of (cs ++ c ∷ []) ≡ pool_of cs ++ pool_bytes c.head
-pool_more [] c = append-nil (pool_bytes c.head)
-pool_more (d ∷ cs) c = ap (λ (xs : List ℕ). pool_bytes d.head ++ xs) (pool_more cs c)
-    ∙ sym (append_assoc (pool_bytes d.head) (pool_of cs) (pool_bytes c.head))
+pool_more : (cs : List Cell) (c : Cell) →
+    pool_of (cs ++ c ∷ []) ≡ pool_of cs ++ head_pool_bytes c.head
+pool_more [] c = append-nil (head_pool_bytes c.head)
+pool_more (d ∷ cs) c = ap (λ (xs : List ℕ). head_pool_bytes d.head ++ xs) (pool_more cs c)
+    ∙ sym (append_assoc (head_pool_bytes d.head) (pool_of cs) (head_pool_bytes c.head))
 
 -- one node more is shown
 cells_more : (bytes : List ℕ) (ns : List Node) (i : ℕ) (d : Node) → i < length ns →
@@ -67,7 +69,7 @@ pub pool_upto : (bytes : List ℕ) (ns : List Node) (i : ℕ) →
 pool_upto bytes ns zero = omega arith
 pool_upto bytes [] (suc i) = omega arith
 pool_upto bytes (n ∷ ns) (suc i) =
-    let own = pool_bytes (head_shown bytes n.children n.content) in
+    let own = head_pool_bytes (head_shown bytes n.children n.content) in
     omega (
       arith,
       pool_upto bytes ns i,
@@ -84,7 +86,7 @@ pool_next bytes ns i d h =
     let n = get_or ns i d in let before = cells_shown bytes (take i ns) in
     ap (λ (cs : List Cell). length (pool_of cs)) (cells_more bytes ns i d h)
     ∙ ap length (pool_more before (cell_shown bytes n))
-    ∙ length-append (pool_of before) (pool_bytes (head_shown bytes n.children n.content))
+    ∙ length-append (pool_of before) (head_pool_bytes (head_shown bytes n.children n.content))
     ∙ ap (λ (xs : List ℕ). length (pool_of before) + length xs)
     (sym (kept_is bytes n.children n.content))
 
@@ -182,7 +184,7 @@ pub all_le : (bytes : List ℕ) (ns : List Node) →
     length (pool_of (cells_shown bytes ns)) ≤ all_kept ns
 all_le bytes [] = omega arith
 all_le bytes (n ∷ ns) =
-    let own = pool_bytes (head_shown bytes n.children n.content) in
+    let own = head_pool_bytes (head_shown bytes n.children n.content) in
     omega (
       arith,
       kept_le bytes n.content,

@@ -40,12 +40,12 @@ arm_code (head.branch (tree.arm q) n) = q
 arm_code _ = 0
 
 -- its bytes in the pool
-abbrev pub pool_bytes : Head → List ℕ
-pool_bytes (head.leaf (tree.text s)) = s
-pool_bytes (head.leaf (tree.bytes s)) = s
-pool_bytes (head.leaf (tree.wide s)) = s
-pool_bytes (head.leaf (tree.bits n s)) = s
-pool_bytes _ = []
+abbrev pub head_pool_bytes : Head → List ℕ
+head_pool_bytes (head.leaf (tree.text s)) = s
+head_pool_bytes (head.leaf (tree.bytes s)) = s
+head_pool_bytes (head.leaf (tree.wide s)) = s
+head_pool_bytes (head.leaf (tree.bits n s)) = s
+head_pool_bytes _ = []
 
 -- the two words of a node whose bytes begin at place `at` of the pool, and whose subtree has `size`
 -- nodes: the halves of a number; a place in the pool and a length, in bits for a bit sequence and
@@ -88,11 +88,11 @@ record_of at c = record {
 -- the records of nodes whose bytes begin at this place of the pool
 abbrev pub records_from : ℕ → List Cell → List Record
 records_from at [] = []
-records_from at (c ∷ cs) = record_of at c ∷ records_from (at + length (pool_bytes c.head)) cs
+records_from at (c ∷ cs) = record_of at c ∷ records_from (at + length (head_pool_bytes c.head)) cs
 
 -- the bytes of all nodes, one after the other
 abbrev pub pool_of : List Cell → List ℕ
-pool_of cs = flat_map (λ c. pool_bytes c.head) cs
+pool_of cs = flat_map (λ c. head_pool_bytes c.head) cs
 
 -- the nodes of a value, in the order of their bytes
 abbrev pub nodes_of : Seen → List Cell
@@ -112,8 +112,8 @@ abbrev pub words_len : Option TypeDef → ℕ → ℕ
 words_len (Some (Def.BitSequence store order (Some form))) n = bits_bytes form n
 words_len _ n = 0
 
-abbrev pub words_of : List TypeInfo → List ℕ → Record → List ℕ
-words_of types pool r =
+abbrev pub record_words : List TypeInfo → List ℕ → Record → List ℕ
+record_words types pool r =
     slice_range pool r.low (r.low + words_len (shape types r.ty) r.high)
 
 -- the node of a record: one with its number in the record, one with its bytes in the pool, one with
@@ -141,10 +141,10 @@ branch_head r =
     else head.branch tree.list r.children
 
 abbrev pub bits_head : List TypeInfo → List ℕ → Record → Head
-bits_head types pool r = head.leaf (tree.bits r.high (words_of types pool r))
+bits_head types pool r = head.leaf (tree.bits r.high (record_words types pool r))
 
-abbrev pub head_of : List TypeInfo → List ℕ → Record → Head
-head_of types pool r =
+abbrev pub record_head : List TypeInfo → List ℕ → Record → Head
+record_head types pool r =
     if nat_lt r.kind 7 then scalar_head r
     else if nat_lt r.kind 10 then pooled_head r.kind (range_of pool r)
     else if nat_lt r.kind 13 then branch_head r
@@ -152,7 +152,7 @@ head_of types pool r =
 
 -- the tree of the nodes of these records
 abbrev pub tree_read : List TypeInfo → List ℕ → List Record → Tree
-tree_read types pool rs = tree_of (map (head_of types pool) rs)
+tree_read types pool rs = tree_of (map (record_head types pool) rs)
 
 -- reading back the records and the pool of a value gives its tree
 abbrev pub RecordsAreTree : Type 0

@@ -20,7 +20,7 @@ use Rattle.value_core.specs.Refusals.{suits_empty, suits_fields_of, suits_list, 
 use Rattle.value_core.specs.Refusals.{suits_text, suits_unsigned, suits_wide, wrong}
 use Rattle.value_core.specs.declared.build_fault.BuildFault.{BuildFault}
 use Rattle.value_core.specs.declared.build_fault.BuildFault.TheVariants as fault
-use Rattle.record_core.specs.Records.{head_of, range_of, words_len}
+use Rattle.record_core.specs.Records.{record_head, range_of, words_len}
 use Rattle.record_core.specs.declared.record.Record.{Record}
 use Rattle.record_core.specs.declared.replaying.RecordFault.{RecordFault}
 use Rattle.record_core.specs.declared.replaying.RecordFault.TheVariants as records
@@ -75,13 +75,13 @@ judged_node (head.branch (tree.arm q) n) b = judged_arm_at b q n
 judged_node (head.branch tree.list n) b = judged (suits_list n) b
 
 -- the record's own fault, or else the builder's
-abbrev pub first_fault : Option BuildFault → Option BuildFault → Option BuildFault
-first_fault (Some f) later = Some f
-first_fault None later = later
+abbrev pub earlier_fault : Option BuildFault → Option BuildFault → Option BuildFault
+earlier_fault (Some f) later = Some f
+earlier_fault None later = later
 
 abbrev pub record_fault : List TypeInfo → List ℕ → Record → Built → Option BuildFault
 record_fault types pool r b =
-    first_fault (own_fault types pool r) (judged_node (head_of types pool r) b)
+    earlier_fault (own_fault types pool r) (judged_node (record_head types pool r) b)
 
 -- the value with the node
 abbrev pub with_node : Head → Built → Built
@@ -91,7 +91,7 @@ with_node (head.branch (tree.arm q) n) b = with_arm_at b q
 with_node (head.branch tree.list n) b = with_list b n
 
 abbrev pub with_record : List TypeInfo → List ℕ → Record → Built → Built
-with_record types pool r b = with_node (head_of types pool r) b
+with_record types pool r b = with_node (record_head types pool r) b
 
 -- ---- all records, one after the other
 
@@ -109,15 +109,15 @@ abbrev pub one_later : Result Built (ℕ × BuildFault) → Result Built (ℕ ×
 one_later (Ok b) = Ok b
 one_later (Err e) = Err (suc e.0, e.1)
 
-abbrev pub unless_fault : Option BuildFault → Result Built (ℕ × BuildFault) →
+abbrev pub fault_or_later : Option BuildFault → Result Built (ℕ × BuildFault) →
     Result Built (ℕ × BuildFault)
-unless_fault None later = one_later later
-unless_fault (Some f) later = Err (0, f)
+fault_or_later None later = one_later later
+fault_or_later (Some f) later = Err (0, f)
 
 -- the value with the nodes of all records, or the position and fault of the first that is rejected
 abbrev pub replay : List TypeInfo → List ℕ → List Record → Built → Result Built (ℕ × BuildFault)
 replay types pool [] b = Ok b
-replay types pool (r ∷ rs) b = unless_fault (record_fault types pool r b)
+replay types pool (r ∷ rs) b = fault_or_later (record_fault types pool r b)
     (replay types pool rs (with_record types pool r b))
 
 -- the value if no node is missing, and otherwise a fault at the end of the records

@@ -14,7 +14,7 @@ ghost use Rattle.value_core.specs.declared.build_fault.BuildFault.TheVariants.{O
 ghost use Rattle.graph_core.specs.Types.{shape};
 ghost use Rattle.record_core.specs.Records.{bits_head, pooled_head, range_of, scalar_head};
 ghost use Rattle.record_core.specs.Records.{tree_read, words_len};
-ghost use Rattle.record_core.specs.Replayed.{ReadsRecords, bits_fault, ended, first_fault};
+ghost use Rattle.record_core.specs.Replayed.{ReadsRecords, bits_fault, ended, earlier_fault};
 ghost use Rattle.record_core.specs.Replayed.{judged_node, pooled_fault, record_fault, replay};
 ghost use Rattle.record_core.specs.Replayed.{scalar_fault, start_with, with_node, with_record};
 
@@ -72,7 +72,8 @@ fn character(code: u64) -> Option<char>
 ///
 /// `OutOfRange` if they are not 32, and those of [`Builder::wide`].
 fn add_wide<A: Allocator>(builder: &mut Builder<'_, A>, bytes: &[u8]) -> Result<(), BuildFault>
-    ensures { Adds (first_fault (in_range (length bytes.now == 32)) (judged suits_wide builder.old))
+    ensures { Adds (earlier_fault (in_range (length bytes.now == 32))
+        (judged suits_wide builder.old))
         (with_leaf builder.old (head.leaf (tree.wide bytes.now))) builder.old builder.new result }
 {
     if bytes.len() != 32 {
@@ -95,7 +96,7 @@ fn add_pooled<A: Allocator>(
 ) -> Result<(), BuildFault>
     requires least { TEXT ≤ node.now.kind }
     requires most { node.now.kind ≤ WIDE }
-    ensures { Adds (first_fault (pooled_fault pool.now node.now)
+    ensures { Adds (earlier_fault (pooled_fault pool.now node.now)
         (judged_node (pooled_head node.now.kind (range_of pool.now node.now)) builder.old))
         (with_node (pooled_head node.now.kind (range_of pool.now node.now)) builder.old)
         builder.old builder.new result }
@@ -120,7 +121,7 @@ fn add_pooled<A: Allocator>(
 /// The fault of the record, and then that of the builder.
 fn add_scalar<A: Allocator>(builder: &mut Builder<'_, A>, node: &Record) -> Result<(), BuildFault>
     requires { node.now.kind ≤ COUNT }
-    ensures { Adds (first_fault (scalar_fault node.now)
+    ensures { Adds (earlier_fault (scalar_fault node.now)
         (judged_node (scalar_head node.now) builder.old))
         (with_node (scalar_head node.now) builder.old) builder.old builder.new result }
 {
@@ -173,7 +174,7 @@ fn add_bits<A: Allocator>(
     node: &Record,
     pool: &[u8],
 ) -> Result<(), BuildFault>
-    ensures { Adds (first_fault (bits_fault checked.now.types pool.now node.now)
+    ensures { Adds (earlier_fault (bits_fault checked.now.types pool.now node.now)
         (judged_node (bits_head checked.now.types pool.now node.now) builder.old))
         (with_node (bits_head checked.now.types pool.now node.now) builder.old)
         builder.old builder.new result }

@@ -36,9 +36,9 @@ pub enum RegistryReason {
 
 impl fmt::Display for RegistryReason {
     ghost use Rattle.std.specs.Prelude.{Some};
-    ghost use Rattle.registry_core.specs.Names.{reason_name};
+    ghost use Rattle.registry_core.specs.Names.{registry_reason_name};
 
-    ghost output = { λ reason. Some (reason_name reason) };
+    ghost output = { λ reason. Some (registry_reason_name reason) };
 
     fn fmt<W: fmt::Write>(&self, f: &mut fmt::Formatter<W>) -> fmt::Result {
         f.write_str(match self {
@@ -69,9 +69,9 @@ pub struct RegistryFault {
 
 impl fmt::Display for RegistryFault {
     ghost use Rattle.std.specs.Prelude.{Some};
-    ghost use Rattle.registry_core.specs.Names.{fault_text};
+    ghost use Rattle.registry_core.specs.Names.{registry_fault_text};
 
-    ghost output = { λ fault. Some (fault_text fault) };
+    ghost output = { λ fault. Some (registry_fault_text fault) };
 
     fn fmt<W: fmt::Write>(&self, f: &mut fmt::Formatter<W>) -> fmt::Result {
         let RegistryFault { reason, at } = self;

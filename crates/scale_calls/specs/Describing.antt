@@ -29,8 +29,8 @@ abbrev pub Named : Type 0
 Named = Option (List ℕ) × ℕ
 
 -- a borrowed part, as values
-abbrev pub seen : Part → Named
-seen part = (option_copied part.name, part.ty)
+abbrev pub part_shown : Part → Named
+part_shown part = (option_copied part.name, part.ty)
 
 -- a field as a part
 abbrev pub field_part : Field → Named
@@ -41,26 +41,26 @@ abbrev pub member_part : TypeId → Named
 member_part member = (None, member.0)
 
 -- the field or member at a position of a definition
-abbrev pub part_of : TypeDef → ℕ → Option Named
-part_of (definition.Composite fields) i = option_map field_part (slice_get fields i)
-part_of (definition.Variant arms) i = None
-part_of (definition.Sequence element) i = None
-part_of (definition.Array len element) i = None
-part_of (definition.Tuple members) i = option_map member_part (slice_get members i)
-part_of (definition.Primitive p) i = None
-part_of (definition.Compact target) i = None
-part_of (definition.BitSequence store order form) i = None
+abbrev pub described_part : TypeDef → ℕ → Option Named
+described_part (definition.Composite fields) i = option_map field_part (slice_get fields i)
+described_part (definition.Variant arms) i = None
+described_part (definition.Sequence element) i = None
+described_part (definition.Array len element) i = None
+described_part (definition.Tuple members) i = option_map member_part (slice_get members i)
+described_part (definition.Primitive p) i = None
+described_part (definition.Compact target) i = None
+described_part (definition.BitSequence store order form) i = None
 
 -- the arm at a position of a definition
-abbrev pub arm_of : TypeDef → ℕ → Option Arm
-arm_of (definition.Composite fields) i = None
-arm_of (definition.Variant arms) i = slice_get arms i
-arm_of (definition.Sequence element) i = None
-arm_of (definition.Array len element) i = None
-arm_of (definition.Tuple members) i = None
-arm_of (definition.Primitive p) i = None
-arm_of (definition.Compact target) i = None
-arm_of (definition.BitSequence store order form) i = None
+abbrev pub described_arm : TypeDef → ℕ → Option Arm
+described_arm (definition.Composite fields) i = None
+described_arm (definition.Variant arms) i = slice_get arms i
+described_arm (definition.Sequence element) i = None
+described_arm (definition.Array len element) i = None
+described_arm (definition.Tuple members) i = None
+described_arm (definition.Primitive p) i = None
+described_arm (definition.Compact target) i = None
+described_arm (definition.BitSequence store order form) i = None
 
 -- `Result::map`
 abbrev pub result_map : {X Y E : Type 0} → (X → Y) → Result X E → Result Y E
@@ -74,11 +74,11 @@ in_type find None = Err refusal.UnknownType
 
 -- the field or member of the type at a position
 abbrev pub type_part : List TypeInfo → ℕ → ℕ → Result Named PartRefusal
-type_part r id i = in_type (λ d. part_of d i) (slice_get r id)
+type_part r id i = in_type (λ d. described_part d i) (slice_get r id)
 
 -- the arm of the type at a position
 abbrev pub type_arm : List TypeInfo → ℕ → ℕ → Result Arm PartRefusal
-type_arm r id i = in_type (λ d. arm_of d i) (slice_get r id)
+type_arm r id i = in_type (λ d. described_arm d i) (slice_get r id)
 
 -- the field at a position of an arm, if there is an arm
 abbrev pub field_in : ℕ → Result Arm PartRefusal → Result Named PartRefusal

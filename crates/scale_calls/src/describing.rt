@@ -3,8 +3,9 @@
 ghost use Rattle.std.specs.Prelude.{◌≡◌, ◌≢◌, ◌++◌, List, ℕ, Decides, IfOk, IfSome, MatchOption};
 ghost use Rattle.std.specs.Prelude.{codes, option_copied, option_map, slice_get, string_bytes};
 ghost use Rattle.types_core.specs.Fits.{FitsDefinition};
-ghost use Rattle.scale_calls.specs.Describing.{IsFirstOfPath, arm_field, arm_of, field_part};
-ghost use Rattle.scale_calls.specs.Describing.{part_of, result_map, seen, seen_definition};
+ghost use Rattle.scale_calls.specs.Describing.{IsFirstOfPath, arm_field, described_arm, field_part};
+ghost use Rattle.scale_calls.specs.Describing.{described_part, result_map, part_shown};
+ghost use Rattle.scale_calls.specs.Describing.{seen_definition};
 ghost use Rattle.scale_calls.specs.Describing.{type_arm, type_definition, type_part, type_path};
 ghost use Rattle.scale_calls.specs.Lines.{joined_segments};
 
@@ -48,7 +49,7 @@ pub fn type_definition(checked: &Checked, id: u32) -> Option<(Class, &TypeDef)>
 
 /// Returns a field as a part.
 fn field_part(field: &Field) -> Part<'_>
-    ensures { seen result ≡ field_part field.now }
+    ensures { part_shown result ≡ field_part field.now }
 {
     Part {
         name: match &field.name {
@@ -61,7 +62,7 @@ fn field_part(field: &Field) -> Part<'_>
 
 /// Returns the field at a position as a part, or `None` if there are no more fields.
 fn field_at(fields: &[Field], position: u32) -> Option<Part<'_>>
-    ensures { option_map seen result ≡ option_map field_part (slice_get fields.now position) }
+    ensures { option_map part_shown result ≡ option_map field_part (slice_get fields.now position) }
 {
     match fields.get(position as usize) {
         Some(field) => Some(field_part(field)),
@@ -71,7 +72,7 @@ fn field_at(fields: &[Field], position: u32) -> Option<Part<'_>>
 
 /// Returns the field or member at a position of a definition, or `None` if it has none there.
 fn part_of(definition: &TypeDef, position: u32) -> Option<Part<'_>>
-    ensures { option_map seen result ≡ part_of definition.now position }
+    ensures { option_map part_shown result ≡ described_part definition.now position }
 {
     match definition {
         TypeDef::Composite(fields) => field_at(fields.as_slice(), position),
@@ -93,7 +94,7 @@ fn part_of(definition: &TypeDef, position: u32) -> Option<Part<'_>>
 
 /// Returns the arm at a position of a definition, or `None` if it has none there.
 fn arm_of(definition: &TypeDef, position: u32) -> Option<&Arm>
-    ensures { option_copied result ≡ arm_of definition.now position }
+    ensures { option_copied result ≡ described_arm definition.now position }
 {
     match definition {
         TypeDef::Variant(arms) => arms.as_slice().get(position as usize),
@@ -114,7 +115,7 @@ fn arm_of(definition: &TypeDef, position: u32) -> Option<&Arm>
 /// - `UnknownType` if the registry has no type at the position `id`.
 /// - `UnknownPart` if the type is neither a composite nor a tuple, or has no more parts.
 pub fn type_part(checked: &Checked, id: u32, position: u32) -> Result<Part<'_>, PartRefusal>
-    ensures { result_map seen result ≡ type_part checked.now.types id position }
+    ensures { result_map part_shown result ≡ type_part checked.now.types id position }
 {
     match checked.shape(TypeId(id)) {
         Some(definition) => part_of(definition, position).ok_or(PartRefusal::UnknownPart),
@@ -149,7 +150,7 @@ pub fn arm_field(
     arm: u32,
     position: u32,
 ) -> Result<Part<'_>, PartRefusal>
-    ensures { result_map seen result ≡ arm_field checked.now.types id arm position }
+    ensures { result_map part_shown result ≡ arm_field checked.now.types id arm position }
 {
     match type_arm(checked, id, arm) {
         Ok(arm) => field_at(arm.fields.as_slice(), position).ok_or(PartRefusal::UnknownPart),

@@ -11,7 +11,7 @@ use lib.Dec.{leb}
 use Rattle.std.proofs.lemmas.Bool.Decides.{nat_tests}
 use Rattle.std.proofs.lemmas.Slice.Eq.{bytes_eq-Decides}
 use Rattle.std.proofs.lemmas.List.{length-take}
-use Rattle.scale_core.specs.Answers.{Answers, judged}
+use Rattle.scale_core.specs.Answers.{Answers, judged_compact}
 use Rattle.scale_core.specs.Compact.{compact, target_bytes}
 use Rattle.scale_core.specs.Number.{AreBytes, number}
 use Rattle.scale_core.specs.Read.{Read, mode_len, mode_number, checked_mode, is_too_long}
@@ -154,7 +154,7 @@ chosen_answers false fits bytes n len there = (bytes, refl, omega arith)
 pub judged_answers : (m : Target) (bytes : List ℕ) (first n len : ℕ) →
     AreBytes bytes → bytes ≡ first ∷ drop 1 bytes → is_too_long m first ≡ false →
     len ≡ mode_len first → len ≤ length bytes → n ≡ mode_number (take len bytes) → n < 2 ^ 128 →
-    (result : Result (ℕ × ℕ) Fault) → result ≡ judged m n len →
+    (result : Result (ℕ × ℕ) Fault) → result ≡ judged_compact m n len →
     Answers (λ x. x) bytes result (integer_at m bytes)
 judged_answers m bytes first n len h is fits long there value small result e =
     rw (e, integer_at-judged m bytes first n len h is fits long there value small)

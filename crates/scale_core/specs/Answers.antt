@@ -21,8 +21,8 @@ abbrev pub truncated_fault : List ℕ → Fault
 truncated_fault input = record { reason = Truncated; at = length input }
 
 -- the answer for a compact of len bytes that stands for n: both numbers, or why it is rejected
-abbrev pub judged : Target → ℕ → ℕ → Result (ℕ × ℕ) Fault
-judged m n len =
+abbrev pub judged_compact : Target → ℕ → ℕ → Result (ℕ × ℕ) Fault
+judged_compact m n len =
     if len == length (compact n) then
     (if nat_lt n (256 ^ target_bytes m) then Ok (n, len) else Err
     (record { reason = CompactTooLarge; at = 0 }))

@@ -6,7 +6,7 @@
 ghost use Rattle.std.specs.Prelude.{◌≡◌, ◌≢◌, ◌+◌, ◌*◌, ◌/◌, ◌%◌, ◌^◌, ◌<◌, ◌≤◌, ◌++◌, ◌∷◌};
 ghost use Rattle.std.specs.Prelude.{nat_lt, ◌==◌, length, take, drop, MatchResult};
 ghost use Rattle.std.specs.Prelude.{IfOk, IfErr, OnOk, OnErr, ◌⊎◌};
-ghost use Rattle.scale_core.specs.Answers.{Answers, judged, truncated_fault};
+ghost use Rattle.scale_core.specs.Answers.{Answers, judged_compact, truncated_fault};
 ghost use Rattle.scale_core.specs.Compact.{big_bytes, compact, target_bytes};
 ghost use Rattle.scale_core.specs.Number.{number};
 ghost use Rattle.scale_core.specs.Read.{compact_at, integer_at};
@@ -104,7 +104,7 @@ fn judge(
     is_shortest: bool,
 ) -> Result<(u128, usize), Fault>
     requires shortest { is_shortest ≡ (len == length (compact number)) }
-    ensures exact { result ≡ judged target number len }
+    ensures exact { result ≡ judged_compact target number len }
     ensures fits { IfOk result (λ x. x.0 < 256 ^ target_bytes target) }
     ensures len { IfOk result (λ x. x.1 ≡ len) }
     ensures reasons { IfErr result

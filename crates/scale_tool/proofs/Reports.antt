@@ -10,7 +10,7 @@ use Rattle.scale_calls.specs.declared.refusal.RegistryRefusal.TheVariants as typ
 use Rattle.scale_tool.specs.Answer.{types_with}
 use Rattle.scale_tool.specs.Refused.{IsRejected, refusal_of_registry, status_of}
 use Rattle.scale_tool.specs.Reported.{FaultsDecode, FaultsRegistry, Reports}
-use Rattle.scale_tool.specs.Reported.{Stands, options_of, refusal_line}
+use Rattle.scale_tool.specs.Reported.{Stands, job_options, refusal_line}
 use Rattle.scale_tool.specs.Values.{ReportsFile, decoding}
 use Rattle.scale_tool.specs.declared.refusal.Refusal.{Refusal}
 use Rattle.scale_tool.specs.declared.refusal.Refusal.TheVariants as refusal
@@ -27,11 +27,11 @@ pub registry_faults : (known : Option (List ℕ)) (options : OpenOptions) (e : R
     IfSome known (λ b. RefusesRegistry options b e) →
     FaultsRegistry options known (refusal_of_registry e)
 registry_faults known options (types.Fault f) h j v is =
-    same_options known (types.Fault f) options (options_of j) is h
+    same_options known (types.Fault f) options (job_options j) is h
 registry_faults known options (types.TrailingBytes at) h j v is =
-    same_options known (types.TrailingBytes at) options (options_of j) is h
+    same_options known (types.TrailingBytes at) options (job_options j) is h
 registry_faults known options (types.Check unknown) h j v is =
-    same_options known (types.Check unknown) options (options_of j) is h
+    same_options known (types.Check unknown) options (job_options j) is h
 registry_faults known options types.Memory h j v is = tt
 
 -- bytes that are refused are those of the file that they were gathered from

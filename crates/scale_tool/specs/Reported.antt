@@ -3,7 +3,7 @@
 use Rattle.std.specs.Prelude.{◌≡◌, ◌≤◌, ℕ, List, [], ◌∷◌, ◌++◌, length, Bool, codes, decimal}
 use Rattle.std.specs.Prelude.{Option, Some, IfSome, false}
 use Rattle.types_core.specs.declared.type_info.TypeInfo.{TypeInfo}
-use Rattle.registry_core.specs.Names as registry
+use Rattle.registry_core.specs.Names.{registry_fault_text}
 use Rattle.decode_core.specs.Names as decode
 use Rattle.scale_calls.specs.Opened.{RefusesRegistry, checked_of}
 use Rattle.scale_calls.specs.declared.refusal.RegistryRefusal.TheVariants as types
@@ -35,7 +35,7 @@ hex_line (hex.Bad at) = placed_line (codes "value") (codes "BadHex") at
 -- the line of a refusal
 abbrev pub refusal_line : Refusal → List ℕ
 refusal_line (refusal.Registry f) =
-    codes "scaleview: registry: " ++ (registry.fault_text f ++ 10 ∷ [])
+    codes "scaleview: registry: " ++ (registry_fault_text f ++ 10 ∷ [])
 refusal_line (refusal.TrailingRegistry at) =
     placed_line (codes "registry") (codes "TrailingBytes") at
 refusal_line (refusal.Check unknown) = codes
@@ -54,9 +54,9 @@ refusal_line refusal.Memory = codes "scaleview: memory\n"
 -- ---- what a refusal says
 
 -- how the job opens its registry
-abbrev pub options_of : Job → OpenOptions
-options_of (job.Types metadata) = opened_by metadata false
-options_of (job.Decode id metadata bits hex depth) = opened_by metadata bits
+abbrev pub job_options : Job → OpenOptions
+job_options (job.Types metadata) = opened_by metadata false
+job_options (job.Decode id metadata bits hex depth) = opened_by metadata bits
 
 -- the position is that of the type of the job's value, and the registry has no such position
 abbrev pub LacksType : Job → ℕ → List ℕ → Type 0
@@ -74,11 +74,11 @@ FaultsValue (job.Decode id metadata bits hex depth) registry value e = (types : 
 -- what a refusal says about the bytes of the registry and the value, if these are known
 abbrev pub Faults : Job → Option (List ℕ) → Option (List ℕ) → Refusal → Type 0
 Faults j r v (refusal.Registry f) =
-    IfSome r (λ b. RefusesRegistry (options_of j) b (types.Fault f))
+    IfSome r (λ b. RefusesRegistry (job_options j) b (types.Fault f))
 Faults j r v (refusal.TrailingRegistry at) =
-    IfSome r (λ b. RefusesRegistry (options_of j) b (types.TrailingBytes at))
+    IfSome r (λ b. RefusesRegistry (job_options j) b (types.TrailingBytes at))
 Faults j r v (refusal.Check unknown) =
-    IfSome r (λ b. RefusesRegistry (options_of j) b (types.Check unknown))
+    IfSome r (λ b. RefusesRegistry (job_options j) b (types.Check unknown))
 Faults j r v (refusal.UnknownType at) = IfSome r (LacksType j at)
 Faults j r v (refusal.Hex f) = FaultsValue j r v (refusal.Hex f)
 Faults j r v (refusal.Value f) = FaultsValue j r v (refusal.Value f)
@@ -91,7 +91,7 @@ Faults j r v refusal.Memory = Unit {0}
 -- the same for any job with this registry
 abbrev pub FaultsRegistry : OpenOptions → Option (List ℕ) → Refusal → Type 0
 FaultsRegistry options registry e = (j : Job) (value : Option (List ℕ)) →
-    options_of j ≡ options → Faults j registry value e
+    job_options j ≡ options → Faults j registry value e
 
 -- the same for any job with a value of the type at this position
 abbrev pub FaultsType : OpenOptions → ℕ → Option (List ℕ) → Refusal → Type 0

@@ -20,7 +20,7 @@ use Rattle.scale_calls.specs.declared.refusal.RegistryRefusal.{RegistryRefusal}
 use Rattle.scale_calls.specs.declared.registry.OpenOptions.{OpenOptions}
 use Rattle.scale_calls.specs.declared.refusal.ValueRefusal.{ValueRefusal}
 use Rattle.scale_calls.specs.declared.refusal.ValueRefusal.TheVariants as value
-use Rattle.scaleview_c.specs.Codes.{counted, opened_answer, plain, progress_answer}
+use Rattle.scaleview_c.specs.Codes.{count_answer, opened_answer, plain, progress_answer}
 use Rattle.scaleview_c.specs.Codes.{registry_answer, text_answer}
 use Rattle.scaleview_c.specs.Codes.{value_answer}
 use Rattle.scaleview_c.specs.declared.codes.Answer.{Answer}
@@ -83,7 +83,7 @@ ClosesRegistry None new code = (code ≡ 5) × (new ≡ None)
 
 -- how many types there are
 abbrev pub ReportsTypes : Option Resource → Answer → Type 0
-ReportsTypes (Some (held.Registry o)) a = a ≡ counted 0 (length o.checked.types)
+ReportsTypes (Some (held.Registry o)) a = a ≡ count_answer 0 (length o.checked.types)
 ReportsTypes (Some (held.Session s)) a = a ≡ plain 5
 ReportsTypes None a = a ≡ plain 5
 
@@ -165,7 +165,7 @@ FeedsStage (stage.Decoding d) piece (stage.Decoding e) a = (r : Result Progress 
     × (a ≡ fed_answer r)
 FeedsStage (stage.Decoding d) piece (stage.Complete v) a = ⊥
 FeedsStage (stage.Decoding d) piece (stage.Refused e) a = ⊥
-FeedsStage (stage.Complete v) piece new a = (new ≡ stage.Complete v) × (a ≡ counted 0 0)
+FeedsStage (stage.Complete v) piece new a = (new ≡ stage.Complete v) × (a ≡ count_answer 0 0)
 FeedsStage (stage.Refused e) piece new a = (new ≡ stage.Refused e) × (a ≡ value_answer e)
 
 -- the answer says that there is no session, and nothing changes
@@ -196,11 +196,11 @@ text_bytes_held (stage.Complete v) = tree_text_bytes v.tree
 text_bytes_held (stage.Refused e) = 0
 
 -- the count is reported, and nothing changes
-abbrev pub Reports : (Stage → ℕ) → Option Resource → Option Resource → Answer → Type 0
-Reports count (Some (held.Session s)) new a = (new ≡ Some (held.Session s))
-    × (a ≡ counted 0 (count s.stage))
-Reports count (Some (held.Registry o)) new a = IsNone (Some (held.Registry o)) new a
-Reports count None new a = IsNone None new a
+abbrev pub ReportsCount : (Stage → ℕ) → Option Resource → Option Resource → Answer → Type 0
+ReportsCount count (Some (held.Session s)) new a = (new ≡ Some (held.Session s))
+    × (a ≡ count_answer 0 (count s.stage))
+ReportsCount count (Some (held.Registry o)) new a = IsNone (Some (held.Registry o)) new a
+ReportsCount count None new a = IsNone None new a
 
 -- the end of these bytes: their value, or why there is none, unless an allocation failed
 abbrev pub EndsAs : Query → List ℕ → Stage → Type 0

@@ -53,12 +53,12 @@ value_code reason.UnusedBits = 314
 abbrev pub plain : ℕ → Answer
 plain code = record { code = code; from = 0; at = 0; length = 0 }
 
-abbrev pub counted : ℕ → ℕ → Answer
-counted code length = record { code = code; from = 0; at = 0; length = length }
+abbrev pub count_answer : ℕ → ℕ → Answer
+count_answer code length = record { code = code; from = 0; at = 0; length = length }
 
 -- the answer for a text of `len` bytes and memory for `room` bytes: it is written, or doesn't fit
 abbrev pub text_answer : ℕ → ℕ → Answer
-text_answer len room = counted (if nat_le len room then 0 else 2) len
+text_answer len room = count_answer (if nat_le len room then 0 else 2) len
 
 -- an open registry: the version of its metadata, or 0 if it stands alone; where it ends; and how
 -- many types it has
@@ -118,4 +118,4 @@ records_answer (records.Record at reason) = rejected at reason
 -- the answer to a piece: more bytes are missing, or a value is complete
 abbrev pub progress_answer : Progress → Answer
 progress_answer progress.More = plain 1
-progress_answer (progress.Done used) = counted 0 used
+progress_answer (progress.Done used) = count_answer 0 used

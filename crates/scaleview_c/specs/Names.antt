@@ -1,6 +1,6 @@
 -- The names of the codes.
 use Rattle.std.specs.Prelude.{ℕ, List, [], ◌∷◌, ◌-◌, codes, nat_le, if◌then◌else◌, slice_index_or}
-use Rattle.registry_core.specs.Names as registry
+use Rattle.registry_core.specs.Names.{registry_reason_name}
 use Rattle.registry_core.specs.declared.fault.RegistryReason.TheVariants as types
 use Rattle.machine_core.specs.Reasons as value
 use Rattle.machine_core.specs.declared.reason.DecodeReason.TheVariants as reason
@@ -12,11 +12,11 @@ calls = codes "Ok" ∷ codes "More" ∷ codes "NoRoom" ∷ codes "OutOfMemory" �
 
 -- those from 101 on: the reasons of a registry, and two more
 abbrev pub of_registry : List (List ℕ)
-of_registry = registry.reason_name types.Truncated ∷ registry.reason_name types.BadUtf8
-    ∷ registry.reason_name types.CompactNotShortest ∷ registry.reason_name types.CompactTooLarge
-    ∷ registry.reason_name types.BadOption ∷ registry.reason_name types.BadDefinition
-    ∷ registry.reason_name types.BadPrimitive ∷ registry.reason_name types.IdOutOfPlace
-    ∷ registry.reason_name types.NotMetadata ∷ registry.reason_name types.WrongVersion
+of_registry = registry_reason_name types.Truncated ∷ registry_reason_name types.BadUtf8
+    ∷ registry_reason_name types.CompactNotShortest ∷ registry_reason_name types.CompactTooLarge
+    ∷ registry_reason_name types.BadOption ∷ registry_reason_name types.BadDefinition
+    ∷ registry_reason_name types.BadPrimitive ∷ registry_reason_name types.IdOutOfPlace
+    ∷ registry_reason_name types.NotMetadata ∷ registry_reason_name types.WrongVersion
     ∷ codes "TrailingBytes" ∷ codes "UnknownType" ∷ []
 
 -- those from 201 on

@@ -2,7 +2,8 @@
 //! `clients/c/scaleview.h`, and never change.
 
 ghost use Rattle.std.specs.Prelude.{◌≡◌};
-ghost use Rattle.scaleview_c.specs.Codes.{counted, opened_answer, plain, progress_answer, refused};
+ghost use Rattle.scaleview_c.specs.Codes.{count_answer, opened_answer, plain, progress_answer};
+ghost use Rattle.scaleview_c.specs.Codes.{refused};
 ghost use Rattle.scaleview_c.specs.Codes.{registry_answer, registry_code, text_answer};
 ghost use Rattle.scaleview_c.specs.Codes.{opening_code, record_code, records_answer};
 ghost use Rattle.scaleview_c.specs.Codes.{value_answer, value_code};
@@ -131,7 +132,7 @@ impl Answer {
 
     /// Returns an answer of a code and a length.
     pub(crate) fn counted(code: u32, length: u64) -> Answer
-        ensures { result ≡ counted code length }
+        ensures { result ≡ count_answer code length }
     {
         Answer {
             code,

@@ -2,7 +2,7 @@
 
 ghost use Rattle.std.specs.Prelude.{◌≡◌, None, Some};
 ghost use Rattle.scaleview_c.specs.Calls.{Feeds, FinishesSession, Frees, StartsBox};
-ghost use Rattle.scaleview_c.specs.Calls.{Reports, StartsHandle};
+ghost use Rattle.scaleview_c.specs.Calls.{ReportsCount, StartsHandle};
 ghost use Rattle.scaleview_c.specs.Calls.{bytes_taken, nodes_held, text_bytes_held};
 ghost use Rattle.scaleview_c.specs.Kept.{CountsStart, GivesSession};
 
@@ -128,7 +128,7 @@ pub extern "C" fn scaleview_feed(
 /// Reports the number of bytes taken of all pieces.
 #[unsafe(no_mangle)]
 pub extern "C" fn scaleview_taken(alloc: Global, session: &mut Handle, answer: &mut Answer) -> u32
-    ensures reported { Reports bytes_taken session.old.value session.new.value answer.new }
+    ensures reported { ReportsCount bytes_taken session.old.value session.new.value answer.new }
     ensures code { result ≡ answer.new.code }
 {
     let Some(held) = held_by(alloc, mem::replace(session, Handle::none())) else {
@@ -146,7 +146,7 @@ pub extern "C" fn scaleview_taken(alloc: Global, session: &mut Handle, answer: &
 /// Reports the number of nodes held.
 #[unsafe(no_mangle)]
 pub extern "C" fn scaleview_nodes(alloc: Global, session: &mut Handle, answer: &mut Answer) -> u32
-    ensures reported { Reports nodes_held session.old.value session.new.value answer.new }
+    ensures reported { ReportsCount nodes_held session.old.value session.new.value answer.new }
     ensures code { result ≡ answer.new.code }
 {
     let Some(held) = held_by(alloc, mem::replace(session, Handle::none())) else {
@@ -168,7 +168,7 @@ pub extern "C" fn scaleview_text_bytes(
     session: &mut Handle,
     answer: &mut Answer,
 ) -> u32
-    ensures reported { Reports text_bytes_held session.old.value session.new.value answer.new }
+    ensures reported { ReportsCount text_bytes_held session.old.value session.new.value answer.new }
     ensures code { result ≡ answer.new.code }
 {
     let Some(held) = held_by(alloc, mem::replace(session, Handle::none())) else {

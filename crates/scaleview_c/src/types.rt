@@ -3,7 +3,7 @@
 ghost use Rattle.std.specs.Prelude.{◌≡◌};
 ghost use Rattle.types_core.specs.Bytes.{primitive_byte};
 ghost use Rattle.types_core.specs.Fits.{FitsDefinition};
-ghost use Rattle.scale_calls.specs.Describing.{result_map, seen};
+ghost use Rattle.scale_calls.specs.Describing.{result_map, part_shown};
 ghost use Rattle.scaleview_c.specs.Types.{ReportsFirst, ReportsShape, WritesArm, WritesArmField};
 ghost use Rattle.scaleview_c.specs.Types.{WritesName, WritesPart, WritesPath, WritesTypePart};
 ghost use Rattle.scaleview_c.specs.Types.{class_number, kind_number, part_code, plain_shape};
@@ -141,7 +141,7 @@ fn put_name(out: &mut [u8], name: &[u8], from: u32, at: u64) -> Answer
 
 /// Writes the name of a part, or returns the answer that says why there is no part.
 fn put_part(out: &mut [u8], part: Result<Part<'_>, PartRefusal>) -> Answer
-    ensures { WritesPart (result_map seen part.entry) out.old out.new result }
+    ensures { WritesPart (result_map part_shown part.entry) out.old out.new result }
 {
     match part {
         Ok(part) => match part.name {

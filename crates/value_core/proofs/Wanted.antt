@@ -13,7 +13,7 @@ use Rattle.grammar_core.specs.declared.form.Next.TheVariants as next
 use Rattle.value_core.specs.Built.{Built, IsClean, IsCleanRun, Pieces}
 use Rattle.value_core.specs.Refusals.{IsRunComplete, missing_at, missing_bytes, missing_of}
 use Rattle.value_core.specs.Refusals.{missing_text}
-use Rattle.value_core.specs.Refusals.{of_bytes}
+use Rattle.value_core.specs.Refusals.{of_byte_run}
 use Rattle.value_core.specs.Refusals.{of_text, while_closed, wanted_from, wanted_of}
 use Rattle.value_core.specs.Walked.{next_of}
 
@@ -41,14 +41,14 @@ wanted_closed b g e = (by_next b.run (next_of b.walk) g e).1
 -- a run of bytes that lacks nothing is whole, and so is a text
 pub bytes_whole : (b : Built) → missing_bytes b ≡ Ok 0 → IsRunComplete b
 bytes_whole b e = by (missing_of b) refl e where
-  of : (k : RunKind) (n : ℕ) → of_bytes k n ≡ Ok 0 → n ≡ 0
+  of : (k : RunKind) (n : ℕ) → of_byte_run k n ≡ Ok 0 → n ≡ 0
   of kind.Text n e = absurd cc
   of (kind.Bits f) n e = absurd cc
   of kind.Bytes n e = cc
   of (kind.ByteArray m) n e = cc
 
   by : (m : Result (RunKind × ℕ) BuildFault) → missing_of b ≡ m →
-      ◌≡◌ {A = Result ℕ BuildFault} (elim m [ Ok x ↦ of_bytes x.0 x.1 | Err e ↦ Err e ]) (Ok 0) →
+      ◌≡◌ {A = Result ℕ BuildFault} (elim m [ Ok x ↦ of_byte_run x.0 x.1 | Err e ↦ Err e ]) (Ok 0) →
       IsRunComplete b
   by (Ok x) f e = (x.0, f ∙ ap (λ (n : ℕ). Ok (x.0, n)) (of x.0 x.1 e))
   by (Err fault) f e = absurd cc
@@ -91,7 +91,7 @@ of_kind b of none n e = by b.run (next_of b.walk) e where
 
 -- an open run of bytes has no unused bits
 pub bytes_clean : (b : Built) (n : ℕ) → missing_bytes b ≡ Ok n → IsCleanRun b.run
-bytes_clean b n e = of_kind b of_bytes (λ f m. refl) n e
+bytes_clean b n e = of_kind b of_byte_run (λ f m. refl) n e
 
 -- nor has an open text
 pub text_clean : (b : Built) (n : ℕ) → missing_text b ≡ Ok n → IsCleanRun b.run

@@ -217,9 +217,9 @@ suits_bytes_start len (form.ByteArray n) = in_range (n == len)
 suits_bytes_start len _ = wrong
 
 -- a run is open, and `missing` bytes of it are missing
-abbrev pub Lacks : Option Pieces → ℕ → Type 0
-Lacks (Some t) missing = length t.bytes + missing ≡ run_bytes t.kind t.len
-Lacks None missing = ⊥
+abbrev pub RunLacks : Option Pieces → ℕ → Type 0
+RunLacks (Some t) missing = length t.bytes + missing ≡ run_bytes t.kind t.len
+RunLacks None missing = ⊥
 
 -- the kind of the open run, and how many bytes it lacks
 abbrev pub missing_from : Option Pieces → Result (RunKind × ℕ) BuildFault
@@ -246,13 +246,13 @@ of_text _ n = Err fault.WrongKind
 abbrev pub missing_text : Built → Result ℕ BuildFault
 missing_text b = elim (missing_of b) [ Ok m ↦ of_text m.0 m.1 | Err e ↦ Err e ]
 
-abbrev pub of_bytes : RunKind → ℕ → Result ℕ BuildFault
-of_bytes kind.Text n = Err fault.WrongKind
-of_bytes (kind.Bits f) n = Err fault.WrongKind
-of_bytes _ n = Ok n
+abbrev pub of_byte_run : RunKind → ℕ → Result ℕ BuildFault
+of_byte_run kind.Text n = Err fault.WrongKind
+of_byte_run (kind.Bits f) n = Err fault.WrongKind
+of_byte_run _ n = Ok n
 
 abbrev pub missing_bytes : Built → Result ℕ BuildFault
-missing_bytes b = elim (missing_of b) [ Ok m ↦ of_bytes m.0 m.1 | Err e ↦ Err e ]
+missing_bytes b = elim (missing_of b) [ Ok m ↦ of_byte_run m.0 m.1 | Err e ↦ Err e ]
 
 -- the fault of a piece, by how many bytes the run lacks
 abbrev pub judged_piece : Result ℕ BuildFault → List ℕ → Option BuildFault

@@ -9,7 +9,7 @@ ghost use Rattle.value_core.specs.Begun.{IsBegun};
 ghost use Rattle.value_core.specs.Built.{built_text_bytes, finished, with_piece, with_run_closed};
 ghost use Rattle.value_core.specs.Built.{with_run_opened, FitsKind, IsCleanRun, pieces_bytes};
 ghost use Rattle.value_core.specs.Built.{unused_in};
-ghost use Rattle.value_core.specs.Refusals.{IsRunComplete, Lacks, bad_text, is_complete};
+ghost use Rattle.value_core.specs.Refusals.{IsRunComplete, RunLacks, bad_text, is_complete};
 ghost use Rattle.value_core.specs.Refusals.{missing_of};
 ghost use Rattle.value_core.specs.Walked.{next_of, start_of};
 
@@ -193,7 +193,7 @@ impl<'r, A: Allocator> RawBuilder<'r, A> {
     /// Returns how many bytes the open run still lacks.
     pub fn run_missing(&self) -> usize
         requires { IsSome self.now.run }
-        ensures lacks { Lacks self.now.run result }
+        ensures lacks { RunLacks self.now.run result }
         ensures bound { result < 2 ^ 32 }
     {
         match self.open_run {

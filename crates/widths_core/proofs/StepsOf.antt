@@ -22,7 +22,7 @@ use Rattle.graph_core.specs.Types.{shape}
 use Rattle.widths_core.specs.Targets.{target_of}
 use Rattle.widths_core.specs.Classes.{class_of}
 use Rattle.widths_core.specs.ClassTables.{has_value, known_class}
-use Rattle.widths_core.specs.Completing.{finished, without_value, FinishesSteps}
+use Rattle.widths_core.specs.Completing.{final_step, without_value, FinishesSteps}
 use Rattle.widths_core.specs.Consistent.{rule_at, rule_number, to_at, has_settled, so_far, tells}
 use Rattle.widths_core.specs.Consistent.{nothing, told}
 use Rattle.widths_core.specs.Layouts.{is_byte}
@@ -59,7 +59,7 @@ get_at (x ∷ xs) (suc t) d lt = get_at xs t d (omega (arith, lt))
 pub record FinishesTo (classes : List Class) (xs ys : List TypeStep) (i : ℕ) : Type 0 where
   pub count : length ys ≡ length xs
   pub done : (t : ℕ) (s : TypeStep) → t < i → slice_get xs t ≡ Some s →
-      slice_get ys t ≡ Some (finished (known_class classes t) s)
+      slice_get ys t ≡ Some (final_step (known_class classes t) s)
   pub left : (t : ℕ) → i ≤ t → slice_get ys t ≡ slice_get xs t
 
 -- one more type has settled, and its step stays
@@ -210,7 +210,7 @@ told_settled r a b s n done t d h e =
 -- ---- steps in the end
 
 -- a step by the class alone, in the end
-finished_by : (c : Class) (x y : TypeStep) → without_value x ≡ y → finished c (by_class c x x)
+finished_by : (c : Class) (x y : TypeStep) → without_value x ≡ y → final_step c (by_class c x x)
     ≡ by_class c y x
 finished_by class.NoValue x y e = e
 finished_by class.Empty x y e = refl
@@ -218,7 +218,7 @@ finished_by class.Sized x y e = refl
 
 -- an array's step in the end
 finished_array : (c : Class) (byte : Bool) (n t : ℕ) →
-    finished c (by_class c (step.Array n t) (array_step byte n t))
+    final_step c (by_class c (step.Array n t) (array_step byte n t))
     ≡ by_class c step.NoValue (array_step byte n t)
 finished_array class.NoValue byte n t = refl
 finished_array class.Empty byte n t = refl
@@ -229,7 +229,8 @@ step_finished : (r : List TypeInfo) (refs : List ℕ) (Row : ℕ → ℕ → Lis
     (d : TypeDef) (known : Bool) (x : TypeStep) → shape r t ≡ Some d → IsDraft refs Row d x →
     ((u : ℕ) → d ≡ Def.Sequence (record { 0 = u }) → known ≡ false →
     class_of r u ≡ class.NoValue) →
-    IsStep r refs Row (class_of r t) d (finished (class_of r t) (so_far r (class_of r t) known d x))
+    IsStep r refs Row (class_of r t) d
+    (final_step (class_of r t) (so_far r (class_of r t) known d x))
 step_finished r refs Row t (Def.Composite fs) known x e h un =
     (h.0, h.1, rw h.2 (finished_by (class_of r t) (step.Parts h.0 h.1) step.NoValue refl), h.3)
 step_finished r refs Row t (Def.Tuple ts) known x e h un =
@@ -278,9 +279,9 @@ table_all r a b s n done ys refs h c f all = record {
       let there : slice_get n.steps t ≡ Some (so_far r (class_of r t) known d k.0) =
       rw class_is at k.2 in
       let now = rw class_is at (f.at t (so_far r (class_of r t) known d k.0) there) in
-      let same : Some (finished (class_of r t) (so_far r (class_of r t) known d k.0)) ≡ Some y =
+      let same : Some (final_step (class_of r t) (so_far r (class_of r t) known d k.0)) ≡ Some y =
       sym now ∙ at in
-      let is : finished (class_of r t) (so_far r (class_of r t) known d k.0) ≡ y = cc in
+      let is : final_step (class_of r t) (so_far r (class_of r t) known d k.0) ≡ y = cc in
       rw (← is) (step_finished r (references_of r) (IsRow (references_of r) n.rows) t d known k.0 e
       k.1 unsettled)
     where

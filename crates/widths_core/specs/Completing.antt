@@ -71,11 +71,11 @@ abbrev pub step_at : List TypeStep → ℕ → TypeStep
 step_at xs t = slice_index_or xs t step.NoValue
 
 -- the final step of a type of this class
-abbrev pub finished : Class → TypeStep → TypeStep
-finished c s = if has_value c then s else without_value s
+abbrev pub final_step : Class → TypeStep → TypeStep
+final_step c s = if has_value c then s else without_value s
 
 -- ys are the final steps of all types
 pub record FinishesSteps (classes : List Class) (xs ys : List TypeStep) : Type 0 where
   pub count : length ys ≡ length xs
   pub at : (t : ℕ) (s : TypeStep) → slice_get xs t ≡ Some s →
-      slice_get ys t ≡ Some (finished (known_class classes t) s)
+      slice_get ys t ≡ Some (final_step (known_class classes t) s)

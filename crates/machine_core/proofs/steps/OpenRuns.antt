@@ -32,7 +32,7 @@ use Rattle.grammar_core.proofs.Runs.{body_again, length_extends}
 use Rattle.value_core.specs.Built.{Built, Pieces, next_layout, run_head, with_leaf, with_run_closed}
 use Rattle.value_core.specs.Built.{IsClean, unused_in, unused_of, with_piece, with_run_ended}
 use Rattle.value_core.proofs.RunEnded.{is_run}
-use Rattle.value_core.specs.Refusals.{IsRunComplete, Lacks, bad_bytes, bad_text, missing_at}
+use Rattle.value_core.specs.Refusals.{IsRunComplete, RunLacks, bad_bytes, bad_text, missing_at}
 use Rattle.value_core.specs.Walked.{next_of}
 use Rattle.form_core.specs.Needs.{HasBytes}
 use Rattle.machine_core.specs.NodeAdds.{IsAdded}
@@ -197,10 +197,11 @@ pub record IsRunOpen (b : Built) (c : List ℕ) (missing : ℕ) : Type 0 where
   pub lacks : length pieces.bytes + missing ≡ run_bytes pieces.kind pieces.len
 
 -- a run that lacks bytes, or none, is open and next
-pub is_open : (b : Built) (c : List ℕ) (missing : ℕ) → IsRunNext b c b.run → Lacks b.run missing →
+pub is_open : (b : Built) (c : List ℕ) (missing : ℕ) → IsRunNext b c b.run →
+    RunLacks b.run missing →
     IsRunOpen b c missing
 is_open b c missing h k = by b.run refl h k where
-  by : (run : Option Pieces) → b.run ≡ run → IsRunNext b c run → Lacks run missing →
+  by : (run : Option Pieces) → b.run ≡ run → IsRunNext b c run → RunLacks run missing →
       IsRunOpen b c missing
   by None e h k = absurd k
   by (Some t) e h k = record {
@@ -216,11 +217,11 @@ is_open b c missing h k = by b.run refl h k where
 -- the same of a decoder that has these fields
 pub open_of : (b : Built) (c : List ℕ) (missing : ℕ) (s : Running) →
     record { built = b; carry = c } ≡ s → IsRunNext s.built s.carry s.built.run →
-    Lacks s.built.run missing → IsRunOpen b c missing
+    RunLacks s.built.run missing → IsRunOpen b c missing
 open_of b c missing s is h k =
     is_open b c missing
     (subst (λ (x : Running). IsRunNext x.built x.carry x.built.run) (sym is) h)
-    (subst (λ (x : Running). Lacks x.built.run missing) (sym is) k)
+    (subst (λ (x : Running). RunLacks x.built.run missing) (sym is) k)
 
 -- ---- the end of a run
 

@@ -26,7 +26,7 @@ use Rattle.grammar_core.specs.declared.form.Form.{Form}
 use Rattle.grammar_core.specs.declared.form.Form.TheVariants as form
 use Rattle.value_core.proofs.Forms.{HasForm}
 use Rattle.outcome_core.specs.Machine.{is_cut}
-use Rattle.form_core.specs.Needs.{compact_need, kind_need, AreOwn, HasBytes, IsNoText}
+use Rattle.form_core.specs.Needs.{compact_need, kind_need, AreOwn, HasBytes, IsNoTextKind}
 use Rattle.grammar_core.specs.Reading.{leaf_own}
 use Rattle.outcome_core.specs.Reported.{arm_own, arms_own, length_own, own_at}
 use Rattle.outcome_core.proofs.ByFault.{IsJudged, Judges, judges}
@@ -131,14 +131,14 @@ arms_whole arms (x ∷ []) h = by (arm_of arms x) where
 
 -- the layouts of nodes that have bytes of their own, other than those of runs
 abbrev pub NeedsThese : Form → List ℕ → Type 0
-NeedsThese (form.Primitive p) b = IsNoText (kind_of p) × AreOwn (form.Primitive p) b
+NeedsThese (form.Primitive p) b = IsNoTextKind (kind_of p) × AreOwn (form.Primitive p) b
 NeedsThese (form.Compact m) b = (m ≢ target.Unit) × AreOwn (form.Compact m) b
 NeedsThese form.Bytes b = ⊥
 NeedsThese (form.Bits f) b = ⊥
 NeedsThese f b = HasBytes f × AreOwn f b
 
 -- the bytes that a primitive kind needs are enough to read or refuse it, if it is no text
-kind_whole : (k : PrimitiveKind) (b : List ℕ) (first : ℕ) → IsNoText k →
+kind_whole : (k : PrimitiveKind) (b : List ℕ) (first : ℕ) → IsNoTextKind k →
     length b ≡ kind_need k first → IsTakenWhole (own_at (kind_layout k) b)
 kind_whole K.Str b first n h = absurd n
 kind_whole _ b first n h = plain_whole _ b h

@@ -2,7 +2,7 @@ use Rattle.std.proofs.Common.{◌-◌, length, take, drop, refl, ap, ◌∙◌, 
 use Rattle.value_core.specs.Walked.{elements_after}
 use Rattle.form_core.specs.Fronts.{form_of_front}
 use Rattle.machine_core.specs.Running.{Running}
-use Rattle.machine_core.specs.Turned.{GoesOn, WholeReports}
+use Rattle.machine_core.specs.Turned.{ListGoesOn, WholeReports}
 use Rattle.machine_core.proofs.steps.Calls.{NodesSoFar, nodes_begin, whole_more}
 use Rattle.machine_core.proofs.steps.Moving.{each_turn, few_turn, turn_goes_on, turn_nearer}
 use Rattle.machine_core.proofs.partial.Partial.repeat.Goals.{then-is_in_list+else-elements-test}
@@ -41,7 +41,7 @@ elements-preserved g c =
     let less = turn_nearer c.elements.self d c.args.piece.now c.elements.at c.in-Added.count
     reports.0 in
     let f = form_of_front (g.F.LeafForm.front c.args.form) in
-    let goes_on = subst (GoesOn f c.elements.self d) c.in-Added.is
+    let goes_on = subst (ListGoesOn f c.elements.self d) c.in-Added.is
     c.whole_element-last.ensures.goes_on in
     record {
       piece = refl;
