@@ -227,7 +227,6 @@ impl<'r, A: Allocator> Partial<'r, A> {
             Form::Sequence => self.whole_own(BytesForm::Sequence, piece),
             Form::Compact(target) => self.whole_single(target, piece),
             Form::ByteArray(len) => self.whole_byte_array(len, piece),
-            Form::Bits(bits) => self.whole_single(RunKind::Bits(bits), piece),
             other => match bytes_form(other) {
                 Some(BytesForm::Plain(plain)) => self.whole_single(plain, piece),
                 _ => Tried::Untouched,

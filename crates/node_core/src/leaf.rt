@@ -75,6 +75,24 @@ fn keep_signed<A: Allocator>(number: i128, pool: &mut GrowVec<u8, A>) -> Result<
     }
 }
 
+/// Appends the words of bits to the pool, and returns the content of their node.
+// A call of its own: with its steps in `keep`, the loops over elements are too long to be inlined.
+fn keep_bits<A: Allocator>(
+    count: u32,
+    bytes: &[u8],
+    pool: &mut GrowVec<u8, A>,
+) -> Result<Content, AllocError>
+    requires { FitsLeaf (Leaf.Bits count bytes) }
+    ensures ok { IfOk result (λ content. IsLeafKept (Leaf.Bits count bytes.entry)
+        pool.old.list.items pool.new.list.items content) }
+    ensures err { IfErr result (λ _. pool.new.list.items ≡ pool.old.list.items) }
+{
+    let start = pool.as_slice().len();
+    let len = put_run(pool, bytes)?;
+    let unused = (8 * u64::from(len)).saturating_sub(u64::from(count)) as u8;
+    Ok(Content::Bits { unused, len, start })
+}
+
 impl<'b> Leaf<'b> {
     /// Returns the number of bytes of a text, a run of bytes or the words of bits, and 0 for
     /// another leaf.
@@ -114,11 +132,7 @@ impl<'b> Leaf<'b> {
                 let len = put_run(pool, bytes)?;
                 Ok(Content::Bytes { start, len })
             }
-            Leaf::Bits(count, bytes) => {
-                let len = put_run(pool, bytes)?;
-                let unused = (8 * u64::from(len)).saturating_sub(u64::from(count)) as u8;
-                Ok(Content::Bits { unused, len, start })
-            }
+            Leaf::Bits(count, bytes) => keep_bits(count, bytes, pool),
             Leaf::Wide(bytes) => {
                 put_run(pool, bytes)?;
                 Ok(Content::Wide { start })
