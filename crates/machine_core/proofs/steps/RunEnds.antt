@@ -6,16 +6,17 @@ use Rattle.std.proofs.lemmas.List.{append-nil}
 use Rattle.std.proofs.Math.Seq.{take-append_seam}
 use Rattle.grammar_core.specs.Runs.{run_front}
 use Rattle.value_core.specs.Built.{Built, unused_in, with_piece}
+use Rattle.value_core.specs.Refusals.{RunLacks}
 use Rattle.outcome_core.specs.Decided.{Decided}
 use Rattle.outcome_core.specs.Machine.{remain}
 use Rattle.outcome_core.specs.Reported.{reported}
-use Rattle.machine_core.specs.Running.{Running, held_of, state_of}
+use Rattle.machine_core.specs.Running.{IsRunNext, Running, held_of, state_of}
 use Rattle.machine_core.specs.Turned.{EndReports, EndsTurns, StepReports, Steps}
 use Rattle.outcome_core.specs.Machine.{TurnLeads}
 use Rattle.machine_core.specs.declared.reason.DecodeReason.{DecodeReason}
 use Rattle.machine_core.specs.declared.turned.Stopped.TheVariants as stop
 use Rattle.machine_core.specs.Turned.{Turned}
-use Rattle.machine_core.proofs.steps.OpenRuns.{IsRunOpen, held_open, piece_wants}
+use Rattle.machine_core.proofs.steps.OpenRuns.{IsRunOpen, held_open, open_of, piece_wants}
 use Rattle.machine_core.proofs.steps.TurnReports.{of_fields}
 use Rattle.std.specs.Prelude.{Ok}
 
@@ -111,3 +112,17 @@ end_reports old new piece (Err (stop.Refused held reason at len)) h =
 end_reports old new piece (Err stop.Finished) h = absurd h
 end_reports old new piece (Err stop.Wants) h = absurd h
 end_reports old new piece (Err stop.OutOfMemory) h = h piece
+
+-- an open run lacks just these bytes, which hold no unused bit that is 1
+pub record RestComes (b : Built) (c rest : List ℕ) : Type 0 where
+  pub opened : IsRunOpen b c (length rest)
+  pub clean : unused_in b.run rest ≡ None
+
+-- the same of a decoder that has these fields
+pub rest_comes : (b : Built) (c rest : List ℕ) (s : Running) → record { built = b; carry = c } ≡ s →
+    IsRunNext s.built s.carry s.built.run → RunLacks s.built.run (length rest) →
+    unused_in s.built.run rest ≡ None → RestComes b c rest
+rest_comes b c rest s is next lacks clean = record {
+  opened = open_of b c (length rest) s is next lacks;
+  clean = subst (λ (x : Running). unused_in x.built.run rest ≡ None) (sym is) clean;
+}

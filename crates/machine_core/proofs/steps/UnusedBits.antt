@@ -1,7 +1,7 @@
 -- An open run of words with an unused bit that is 1.
 use Rattle.std.proofs.Common.{suc, ◌≡◌, ℕ, ◌+◌, ◌<◌, ◌≤◌, List, [], ◌++◌}
 use Rattle.std.proofs.Common.{length}
-use Rattle.std.proofs.Common.{take, drop, Option, Some, Err, refl, sym, ap, subst, ◌∙◌}
+use Rattle.std.proofs.Common.{take, drop, min, Option, None, Some, Err, refl, sym, ap, subst, ◌∙◌}
 use Rattle.std.proofs.Common.{append_assoc, arith, length-append, length-drop}
 use Rattle.std.specs.Prelude.{option_map}
 use Rattle.std.proofs.lemmas.List.{length-take, length-take-le, take-append-drop}
@@ -30,7 +30,7 @@ use Rattle.machine_core.specs.declared.turned.Stopped.{Stopped}
 use Rattle.machine_core.proofs.steps.Refusing.{refuses_by}
 use Rattle.machine_core.proofs.steps.MachineTurn.{at_next}
 use Rattle.machine_core.proofs.steps.OpenRuns.{IsRunOpen, held_open, laid_run, run_after}
-use Rattle.machine_core.proofs.steps.OpenRuns.{run_begun}
+use Rattle.machine_core.proofs.steps.OpenRuns.{run_begun, take_min}
 
 -- so many bytes after those that came, the next one has an unused bit of 1; these and the bytes up
 -- to that one are refused, and fewer are cut
@@ -162,3 +162,13 @@ unused_step b c missing n new piece m after stopped few is same =
     subst (λ (s : Stopped). StepReports (record { built = b; carry = c }) new piece (Err s))
     (sym (same ∙ ap (λ (o : Option Pieces). unused_stop o after) n.open_is))
     (unused_reports b c missing n piece m after few is)
+
+-- where an open run finds no such bit in what it takes of a piece, there is none in all that it
+-- lacks
+pub clean_missing : (s t : Running) (missing few : ℕ) (piece : List ℕ) (found : Option ℕ) → s ≡ t →
+    few ≡ min (length piece) missing → found ≡ unused_in s.built.run (take few piece) →
+    found ≡ None → unused_in t.built.run (take missing piece) ≡ None
+clean_missing s t missing few piece found same least is none =
+    let taken : take few piece ≡ take missing piece = rw least (take_min missing piece) in
+    subst (λ (x : Running). unused_in x.built.run (take missing piece) ≡ None) same
+    (ap (unused_in s.built.run) (sym taken) ∙ sym is ∙ none)

@@ -6,7 +6,7 @@ use Rattle.machine_core.specs.Turned.{StepReports, WantsBytes, unused_stop}
 use Rattle.machine_core.proofs.steps.RunEnds.{end_reports}
 use Rattle.machine_core.proofs.steps.TurnReports.{none_of, some_missing}
 use Rattle.machine_core.proofs.steps.OpenRuns.{is_open, run_waits, take_min}
-use Rattle.machine_core.proofs.steps.UnusedBits.{unused_step}
+use Rattle.machine_core.proofs.steps.UnusedBits.{clean_missing, unused_step}
 use Rattle.machine_core.specs.Running.{Running}
 use Rattle.std.specs.Prelude.{Err}
 use Rattle.machine_core.proofs.partial.Partial.run_turn.Goals as goal
@@ -62,20 +62,12 @@ returns-in-Some-clause-reports g c =
 
 pub run_piece-requires-clause-clean : goal.run_piece-requires-clause-clean
 run_piece-requires-clause-clean g c =
-    let piece = c.args.piece.now in
-    let missing = c.run_missing-missing.result in
-    let same : take c.min.result piece ≡ take missing piece =
-    rw c.min.ensures (take_min missing piece) in
-    subst (λ (s : Running). unused_in s.built.run (take missing piece) ≡ None) c.self.view_is
-    (ap (unused_in c.self.inside.builder.run) (sym same)
-    ∙ sym c.unused_in.ensures.exact ∙ c.in_default.is)
+    clean_missing (record { built = c.self.inside.builder; carry = c.self.inside.carry })
+    c.args.self.now c.run_missing-missing.result c.min.result c.args.piece.now c.unused_in.result
+    c.self.view_is c.min.ensures c.unused_in.ensures.exact c.in_default.is
 
 pub run_rest-requires-clause-clean : goal.run_rest-requires-clause-clean
 run_rest-requires-clause-clean g c =
-    let piece = c.args.piece.now in
-    let missing = c.run_missing-missing.result in
-    let same : take c.min.result piece ≡ take missing piece =
-    rw c.min.ensures (take_min missing piece) in
-    subst (λ (s : Running). unused_in s.built.run (take missing piece) ≡ None) c.self.view_is
-    (ap (unused_in c.self.inside.builder.run) (sym same)
-    ∙ sym c.unused_in.ensures.exact ∙ c.in_default.is)
+    clean_missing (record { built = c.self.inside.builder; carry = c.self.inside.carry })
+    c.args.self.now c.run_missing-missing.result c.min.result c.args.piece.now c.unused_in.result
+    c.self.view_is c.min.ensures c.unused_in.ensures.exact c.in_default.is
