@@ -14,12 +14,8 @@ pub(crate) enum Wrong {
     Column(&'static str),
     /// A call that fails and should not.
     Call(&'static str),
-    /// An answer that differs from the row's.
-    Answer {
-        way: Way,
-        wanted: String,
-        found: String,
-    },
+    /// An answer that differs from the row's, in words.
+    Answer(String),
 }
 
 impl From<AllocError> for Wrong {
@@ -34,7 +30,7 @@ impl Display for Wrong {
             Wrong::Memory => write!(f, "out of memory"),
             Wrong::Column(wanted) => write!(f, "a column is not {wanted}"),
             Wrong::Call(call) => write!(f, "{call} is refused"),
-            Wrong::Answer { way, wanted, found } => write!(f, "{way:?}: {found}, not {wanted}"),
+            Wrong::Answer(text) => write!(f, "{text}"),
         }
     }
 }
@@ -46,11 +42,8 @@ pub(crate) fn differing(
     wanted: &str,
     found: &str,
 ) -> Result<Wrong, AllocError> {
-    Ok(Wrong::Answer {
-        way,
-        wanted: String::from_str(alloc, wanted)?,
-        found: String::from_str(alloc, found)?,
-    })
+    let text = format!(in alloc; "{way:?}: {found}, not {wanted}")?;
+    Ok(Wrong::Answer(text))
 }
 
 /// Compares two texts.
