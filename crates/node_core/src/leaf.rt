@@ -1,6 +1,7 @@
 //! A node without children, before it is added to a value.
 
-ghost use Rattle.std.specs.Prelude.{◌≡◌, IfOk, IfErr, IfSome};
+ghost use Rattle.std.specs.Prelude.{◌≡◌, ◌<◌, ◌^◌, FitsSigned, IfOk, IfErr, SomeIff};
+ghost use Rattle.std.specs.Int.{w64};
 ghost use Rattle.node_core.specs.Leaves.{leaf_text_bytes, FitsLeaf, IsLeafKept};
 
 use crate::node::Content;
@@ -38,7 +39,7 @@ pub enum Leaf<'b> {
 /// Returns the number in 64 bits, if it fits.
 #[inline(always)]
 fn short(number: u128) -> Option<u64>
-    ensures { IfSome result (λ n. n ≡ number) }
+    ensures { SomeIff result (number < 2 ^ 64) number }
 {
     if number <= u128::from(u64::MAX) {
         Some(number as u64)
@@ -49,7 +50,7 @@ fn short(number: u128) -> Option<u64>
 
 /// Returns the number in 64 bits, if it fits.
 fn short_signed(number: i128) -> Option<i64>
-    ensures { IfSome result (λ z. z ≡ number) }
+    ensures { SomeIff result (FitsSigned w64 number) number }
 {
     if i128::from(i64::MIN) <= number && number <= i128::from(i64::MAX) {
         Some(number as i64)
