@@ -24,9 +24,10 @@ pub fn unopened<E: Write>(device: Device, err: &mut Sink<E>) -> u8
 /// text goes to `out`; 2 for a usage error; 3 if the help could not be written; and 4 if an
 /// allocation failed.
 ///
-/// At 0 the complete text of the help was appended to `out`, and at 3 a beginning of it. Otherwise
-/// nothing was written to `out`, and `err` got the text of `clap` or one line, unless a write to it
-/// failed, which changes no status. It allocates nothing.
+/// At 0 the complete text of the help was appended to `out`, and `err` is untouched. At 3 a
+/// beginning of it was, and `err` got the line of a failed output. Otherwise nothing was written to
+/// `out`, and `err` got the text of `clap` or one line. A failed write to `err` changes no status.
+/// It allocates nothing.
 pub fn explain<W: Write, E: Write>(fault: JobFault, out: &mut Sink<W>, err: &mut Sink<E>) -> u8
     ensures status { IsStatusOf fault result }
     ensures shown { result ≡ 0 →
@@ -39,6 +40,10 @@ pub fn explain<W: Write, E: Write>(fault: JobFault, out: &mut Sink<W>, err: &mut
     ensures reported { (result ≡ 2) ⊎ (result ≡ 4) → (err.new.failed ≡ true)
         ⊎ Appends (E.contents err.old.device) (E.contents err.new.device) (reported_text fault) }
     ensures device { result ≡ 3 → out.new.failed ≡ true }
+    ensures quiet { result ≡ 0 → err.new ≡ err.old }
+    ensures unwritten { result ≡ 3 → (err.new.failed ≡ true)
+        ⊎ Appends (E.contents err.old.device) (E.contents err.new.device)
+        (device_line Device.Output) }
 {
     match fault {
         JobFault::Line { error, text } => {

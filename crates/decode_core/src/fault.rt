@@ -5,7 +5,6 @@ ghost use Rattle.std.specs.Prelude.{◌≡◌};
 use machine_core::DecodeReason;
 use std::alloc::AllocError;
 use std::{error, fmt};
-use thiserror::Error;
 
 /// The error of a value: its reason, and its place in bytes from the value's start. It is printed
 /// as `REASON at PLACE`.
@@ -30,18 +29,32 @@ impl fmt::Display for DecodeFault {
 impl error::Error for DecodeFault {}
 
 /// Why no decoder is made. It is printed as its name.
-#[derive(Clone, Copy, Debug, PartialEq, Eq, Error)]
+#[derive(Clone, Copy, Debug, PartialEq, Eq)]
 pub enum OpenFault {
     /// The id is no position of the registry.
-    #[error("UnknownType")]
     UnknownType,
     /// The depth limit is above 1024, or the limit of bytes above 1099511627776.
-    #[error("LimitOutOfRange")]
     LimitOutOfRange,
     /// An allocation failed.
-    #[error("OutOfMemory")]
     OutOfMemory,
 }
+
+impl fmt::Display for OpenFault {
+    ghost use Rattle.std.specs.Prelude.{Some};
+    ghost use Rattle.decode_core.specs.Names.{open_fault_name};
+
+    ghost output = { λ fault. Some (open_fault_name fault) };
+
+    fn fmt<W: fmt::Write>(&self, f: &mut fmt::Formatter<W>) -> fmt::Result {
+        f.write_str(match self {
+            OpenFault::UnknownType => "UnknownType",
+            OpenFault::LimitOutOfRange => "LimitOutOfRange",
+            OpenFault::OutOfMemory => "OutOfMemory",
+        })
+    }
+}
+
+impl error::Error for OpenFault {}
 
 impl From<AllocError> for OpenFault {
     ghost use Rattle.std.specs.Prelude.{◌≡◌};

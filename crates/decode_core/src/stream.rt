@@ -11,7 +11,7 @@ use crate::decoder::{Decoder, Progress};
 use crate::fault::{DecodeFault, OpenFault};
 use scale_core::{ReadOnce, Source, SourceFault};
 use std::alloc::Allocator;
-use thiserror::Error;
+use std::{error, fmt};
 use types_core::TypeId;
 use value_core::{Limits, Value};
 use widths_core::Checked;
@@ -21,24 +21,38 @@ const PIECE: usize = 4096;
 
 /// Why the bytes of a reader are not a value. It is printed as the fault is, or as its name and
 /// place.
-#[derive(Clone, Copy, Debug, PartialEq, Eq, Error)]
+#[derive(Clone, Copy, Debug, PartialEq, Eq)]
 pub enum StreamFault {
     /// No decoder is made, and nothing was read.
-    #[error("{0}")]
     Open(OpenFault),
     /// The bytes are rejected, or end before the value does.
-    #[error("{0}")]
     Decode(DecodeFault),
     /// Another byte follows the value.
-    #[error("TrailingBytes at {at}")]
     TrailingBytes {
         /// The number of bytes of the value.
         at: u64,
     },
     /// A read failed, and the bytes before it leave the answer open.
-    #[error("Device")]
     Device,
 }
+
+impl fmt::Display for StreamFault {
+    ghost use Rattle.std.specs.Prelude.{Some};
+    ghost use Rattle.decode_core.specs.Names.{stream_fault_text};
+
+    ghost output = { λ fault. Some (stream_fault_text fault) };
+
+    fn fmt<W: fmt::Write>(&self, f: &mut fmt::Formatter<W>) -> fmt::Result {
+        match self {
+            StreamFault::Open(fault) => write!(f, "{fault}"),
+            StreamFault::Decode(fault) => write!(f, "{fault}"),
+            StreamFault::TrailingBytes { at } => write!(f, "TrailingBytes at {at}"),
+            StreamFault::Device => f.write_str("Device"),
+        }
+    }
+}
+
+impl error::Error for StreamFault {}
 
 impl From<OpenFault> for StreamFault {
     ghost from_gives = { λ f r. r ≡ Open f };
