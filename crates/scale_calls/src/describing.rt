@@ -1,7 +1,8 @@
 //! Describes the types of a registry: their definitions, parts, arms and paths.
 
-ghost use Rattle.std.specs.Prelude.{◌≡◌, ◌≢◌, ◌++◌, List, ℕ, Decides, IfOk, IfSome, MatchOption};
-ghost use Rattle.std.specs.Prelude.{codes, option_copied, option_map, slice_get, string_bytes};
+ghost use Rattle.std.specs.Prelude.{◌≡◌, ◌≢◌, ◌++◌, List, ℕ, Decides, IfOk, IfErr, IfSome, IsSome};
+ghost use Rattle.std.specs.Prelude.{MatchOption, codes, option_copied, option_map, slice_get};
+ghost use Rattle.std.specs.Prelude.{string_bytes};
 ghost use Rattle.types_core.specs.Fits.{FitsDefinition};
 ghost use Rattle.scale_calls.specs.Describing.{IsFirstOfPath, arm_field, described_arm, field_part};
 ghost use Rattle.scale_calls.specs.Describing.{described_part, result_map, part_shown};
@@ -163,9 +164,11 @@ pub fn arm_field(
 ///
 /// # Errors
 ///
-/// `AllocError` if an allocation fails.
+/// `AllocError` if an allocation fails, which only a type that is there needs.
 pub fn type_path(alloc: Global, checked: &Checked, id: u32) -> Result<Option<String>, AllocError>
-    ensures { IfOk result (λ path. option_map string_bytes path ≡ type_path checked.now.types id) }
+    ensures path { IfOk result
+        (λ path. option_map string_bytes path ≡ type_path checked.now.types id) }
+    ensures known { IfErr result (λ _. IsSome (type_path checked.now.types id)) }
 {
     match checked.registry().types().get(id as usize) {
         Some(info) => Ok(Some(joined(alloc, info.path.as_slice())?)),

@@ -1,6 +1,7 @@
 //! The lines that show the types of a registry and its metadata's version.
 
-ghost use Rattle.std.specs.Prelude.{◌≡◌, ◌<◌, ◌++◌, IfOk, OnOk, option_map, string_bytes};
+ghost use Rattle.std.specs.Prelude.{◌≡◌, ◌<◌, ◌++◌, IfOk, IfErr, IsSome, OnOk, option_map};
+ghost use Rattle.std.specs.Prelude.{string_bytes};
 ghost use Rattle.serde_json.specs.Data.{string};
 ghost use Rattle.serde_json.specs.Written.{compact_text};
 ghost use Rattle.scale_calls.specs.Lines.{class_name, joined_segments, kind_name, line_of_type};
@@ -129,9 +130,11 @@ pub fn push_type_lines(
 ///
 /// # Errors
 ///
-/// `AllocError` if an allocation fails.
+/// `AllocError` if an allocation fails, which only a type that is there needs.
 pub fn type_line(alloc: Global, checked: &Checked, id: u32) -> Result<Option<String>, AllocError>
-    ensures { IfOk result (λ line. option_map string_bytes line ≡ type_line checked.now.types id) }
+    ensures line { IfOk result
+        (λ line. option_map string_bytes line ≡ type_line checked.now.types id) }
+    ensures known { IfErr result (λ _. IsSome (type_line checked.now.types id)) }
 {
     let Some(class) = checked.class(TypeId(id)) else {
         return Ok(None);

@@ -1,6 +1,6 @@
 -- What each call does to what is behind its handles, and what it reports.
 use Rattle.std.specs.Prelude.{◌≡◌, ℕ, ◌⊎◌, ◌%◌, ◌/◌, ◌==◌, List, [], ◌++◌, length, Option}
-use Rattle.std.specs.Prelude.{Some, None, MatchOption, Result, Ok, Err}
+use Rattle.std.specs.Prelude.{Some, None, Result, Ok, Err}
 use Rattle.limits_core.specs.declared.limits.Limits.{Limits}
 use Rattle.grammar_core.specs.Tree.{nodes, text_bytes as tree_text_bytes}
 use Rattle.json_core.specs.Json.{json_text}
@@ -87,11 +87,15 @@ ReportsTypes (Some (held.Registry o)) a = a ≡ count_answer 0 (length o.checked
 ReportsTypes (Some (held.Session s)) a = a ≡ plain 5
 ReportsTypes None a = a ≡ plain 5
 
+-- a text of a type is written, or an allocation failed; or the type does not exist
+abbrev pub WritesKnown : Option (List ℕ) → List ℕ → List ℕ → Answer → Type 0
+WritesKnown (Some text) old new a = Leaves old new (plain 3) a ⊎ Writes text old new a
+WritesKnown None old new a = Leaves old new (plain 201) a
+
 -- the line of the type is written, if the type exists, unless an allocation failed
 abbrev pub WritesLine : Option Resource → ℕ → List ℕ → List ℕ → Answer → Type 0
-WritesLine (Some (held.Registry o)) id old new a = Leaves old new (plain 3) a
-    ⊎ MatchOption (type_line o.checked.types id) (Leaves old new (plain 201) a)
-    (λ line. Writes line old new a)
+WritesLine (Some (held.Registry o)) id old new a =
+    WritesKnown (type_line o.checked.types id) old new a
 WritesLine (Some (held.Session s)) id old new a = Leaves old new (plain 5) a
 WritesLine None id old new a = Leaves old new (plain 5) a
 

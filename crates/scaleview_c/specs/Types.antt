@@ -1,6 +1,6 @@
 -- What the calls that describe a type report.
 use Rattle.std.specs.Prelude.{◌≡◌, ℕ, ◌⊎◌, List, [], length, nat_le, if◌then◌else◌, Option, Some}
-use Rattle.std.specs.Prelude.{None, MatchOption, Result, Ok, Err}
+use Rattle.std.specs.Prelude.{None, Result, Ok, Err}
 use Rattle.json_core.specs.Printed.{IsInFront}
 use Rattle.types_core.specs.Bytes.{primitive_byte}
 use Rattle.types_core.specs.declared.definition.Arm.{Arm}
@@ -12,7 +12,7 @@ use Rattle.scale_calls.specs.Describing.{IsFirstOfPath, Named, arm_field, type_a
 use Rattle.scale_calls.specs.Describing.{type_part, type_path}
 use Rattle.scale_calls.specs.declared.describing.PartRefusal.{PartRefusal}
 use Rattle.scale_calls.specs.declared.describing.PartRefusal.TheVariants as refusal
-use Rattle.scaleview_c.specs.Calls.{Leaves, Writes}
+use Rattle.scaleview_c.specs.Calls.{Leaves, Writes, WritesKnown}
 use Rattle.scaleview_c.specs.Codes.{plain}
 use Rattle.scaleview_c.specs.declared.codes.Answer.{Answer}
 use Rattle.scaleview_c.specs.declared.resource.Resource.{Resource}
@@ -154,9 +154,8 @@ WritesArm None id arm old new a = Leaves old new (plain 5) a
 
 -- the path of the type is written, if the type exists, unless an allocation failed
 abbrev pub WritesPath : Option Resource → ℕ → List ℕ → List ℕ → Answer → Type 0
-WritesPath (Some (held.Registry o)) id old new a = Leaves old new (plain 3) a
-    ⊎ MatchOption (type_path o.checked.types id) (Leaves old new (plain 201) a)
-    (λ path. Writes path old new a)
+WritesPath (Some (held.Registry o)) id old new a =
+    WritesKnown (type_path o.checked.types id) old new a
 WritesPath (Some (held.Session s)) id old new a = Leaves old new (plain 5) a
 WritesPath None id old new a = Leaves old new (plain 5) a
 
