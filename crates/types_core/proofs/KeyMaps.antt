@@ -1,4 +1,4 @@
--- The map that the order of many keys is found by.
+-- The map that the order of names is found by.
 use Rattle.std.proofs.Common.{◌≡◌, ℕ, cond, List, [], ◌∷◌, Option, Some, is_some, Bor, Ordering}
 use Rattle.std.proofs.Common.{Less, Equal, Greater, nat_cmp, is_eq, refl, ap, ◌∙◌}
 use Rattle.std.specs.Cmp.Lexicographic.{slice_cmp}

@@ -1,19 +1,18 @@
--- The order of the names of few fields, as they are inserted into a sorted list.
-use Rattle.std.proofs.Common.{◌≡◌, ℕ, zero, suc, ◌+◌, ◌<◌, ◌≤◌, Bool, true, false, cond, List, []}
+-- The order of the names of fields, as they are inserted one after the other.
+use Rattle.std.proofs.Common.{◌≡◌, ℕ, suc, ◌+◌, ◌<◌, Bool, true, false, cond, List, []}
 use Rattle.std.proofs.Common.{◌∷◌, length, map, drop, Option, Some, None, is_some, option_map, Bor}
 use Rattle.std.proofs.Common.{Ordering, Less, Equal, Greater, nat_cmp, is_eq, refl, sym, ap, ◌∙◌}
-use Rattle.std.proofs.Common.{arith, true≢false, get_or, bytes_eq}
+use Rattle.std.proofs.Common.{arith, true≢false, get_or}
 use Rattle.std.specs.Prelude.{option_and_then, ◌||◌}
 use Rattle.std.specs.Cmp.Lexicographic.{slice_cmp}
-use Rattle.std.specs.List.{insert as list_insert, range_with_len}
+use Rattle.std.specs.List.{range_with_len}
 use Rattle.std.specs.Map.{lookup}
-use Rattle.std.specs.Ordering.{match_ordering, is_gt}
+use Rattle.std.specs.Ordering.{match_ordering}
 use Rattle.std.specs.BTreeMap.{insert_entry, is_at}
 use Rattle.std.proofs.lemmas.List.{drop_more, length-map}
-use Rattle.std.proofs.lemmas.Map.Text.{is_eq-slice_cmp}
 use Rattle.types_core.specs.declared.definition.Field.{Field}
 use Rattle.types_core.specs.declared.keys.Keys.TheVariants as keys
-use Rattle.types_core.specs.Keys.{is_there, order_from, place_among, lent_entries, positions_of}
+use Rattle.types_core.specs.Keys.{is_there, order_from, lent_entries, positions_of}
 use Rattle.types_core.specs.Keys.{key_order, AreKeys}
 
 abbrev pub Entries : Type 0
@@ -68,71 +67,6 @@ pub new_here : (fs : List Field) (p : ℕ) (f : Field) (n : List ℕ) (es new : 
 new_here fs p f n es new h e is there i = next_field fs p f n es h e is
     ∙ ap (λ b. cond b None (order_from (drop (p + 1) fs) (p + 1) (insert n p es))) there
     ∙ ap (order_from (drop (p + 1) fs) (p + 1)) (sym i)
-
--- ---- names in a list
-
--- a name is among the entries from a place on if it is the one there or among those after it
-pub among_drop : (n : List ℕ) (es : Lent) (p : ℕ) (d : Bor (List ℕ) × ℕ) → p < length es →
-    is_there n (lent_entries (drop p es))
-    ≡ (bytes_eq n (get_or es p d).0.now || is_there n (lent_entries (drop (p + 1) es)))
-among_drop n es p d h = ap (λ l. is_there n (lent_entries l)) (drop_more es p d h)
-    ∙ is_there_cons n ((get_or es p d).0.now, (get_or es p d).1) (lent_entries (drop (p + 1) es))
-    ∙ ap (λ b. b || is_there n (lent_entries (drop (p + 1) es)))
-    (is_eq-slice_cmp n (get_or es p d).0.now)
-
--- what a look-up finds, by how the name compares with the first entry
-abbrev first_or : List ℕ → List ℕ × ℕ → Entries → Ordering → Option ℕ
-first_or n e es o = cond (is_eq o) (Some e.1) (lookup (is_at (slice_cmp nat_cmp n)) es)
-
--- the first entry stands before the name, or the name is put before it
-placed_at : (n : List ℕ) (i : ℕ) (e : List ℕ × ℕ) (es : Entries) (o : Ordering) →
-    slice_cmp nat_cmp n e.0 ≡ o → is_there n (e ∷ es) ≡ false →
-    (is_there n es ≡ false → insert n i es ≡ list_insert es (place_among n es) (n, i)) →
-    match_ordering o ((n, i) ∷ e ∷ es) ((e.0, i) ∷ es) (e ∷ insert n i es)
-    ≡ list_insert (e ∷ es) (cond (is_gt o) (suc (place_among n es)) 0) (n, i)
-placed_at n i e es Less is new later = refl
-placed_at n i e es Equal is new later =
-    absurd (true≢false (sym (ap (λ o. is_some (first_or n e es o)) is) ∙ new))
-placed_at n i e es Greater is new later =
-    ap (λ l. e ∷ l) (later (sym (ap (λ o. is_some (first_or n e es o)) is) ∙ new))
-
--- a name that is new is inserted at its place
-insert_at_place : (n : List ℕ) (i : ℕ) (es : Entries) → is_there n es ≡ false →
-    insert n i es ≡ list_insert es (place_among n es) (n, i)
-insert_at_place n i [] new = refl
-insert_at_place n i (e ∷ es) new =
-    placed_at n i e es (slice_cmp nat_cmp n e.0) refl new (insert_at_place n i es)
-
--- entries that are inserted into a list stand for those inserted into the entries that it stands
--- for
-lent_insert : (es : Lent) (p : ℕ) (e : Bor (List ℕ) × ℕ) →
-    lent_entries (list_insert es p e) ≡ list_insert (lent_entries es) p (e.0.now, e.1)
-lent_insert [] zero e = refl
-lent_insert [] (suc p) e = refl
-lent_insert (x ∷ es) zero e = refl
-lent_insert (x ∷ es) (suc p) e = ap (λ l. (x.0.now, x.1) ∷ l) (lent_insert es p e)
-
--- to put a new name into the list at its place is to insert it
-pub put_in_list : (k : Bor (List ℕ)) (i p : ℕ) (old new : Lent) →
-    is_there k.now (lent_entries old) ≡ false → p ≡ place_among k.now (lent_entries old) →
-    new ≡ list_insert old p (k, i) → lent_entries new ≡ insert k.now i (lent_entries old)
-put_in_list k i p old new h at e = ap lent_entries e ∙ lent_insert old p (k, i)
-    ∙ ap (λ q. list_insert (lent_entries old) q (k.now, i)) at
-    ∙ sym (insert_at_place k.now i (lent_entries old) h)
-
--- a place among entries is no further than their end
-pub place_within : (n : List ℕ) (es : Entries) → place_among n es ≤ length es
-place_within n [] = omega arith
-place_within n (e ∷ es) = go (is_gt (slice_cmp nat_cmp n e.0)) (place_within n es) where
-  go : (b : Bool) → place_among n es ≤ length es →
-      cond b (suc (place_among n es)) 0 ≤ suc (length es)
-  go true h = omega (arith, h)
-  go false h = omega arith
-
--- there are as many entries
-pub lent_count : (es : Lent) → length (lent_entries es) ≡ length es
-lent_count [] = refl
-lent_count (e ∷ es) = ap suc (lent_count es)
 
 -- ---- as many positions as fields
 

@@ -3,7 +3,7 @@ use Rattle.std.specs.Prelude.{◌≡◌, ℕ, suc, List, [], ◌∷◌, length, 
 use Rattle.std.specs.Prelude.{Option, Some, None, option_map, option_and_then, is_some}
 use Rattle.std.specs.Borrow.{Bor}
 use Rattle.std.specs.List.{range_with_len}
-use Rattle.std.specs.Ordering.{nat_cmp, is_gt}
+use Rattle.std.specs.Ordering.{nat_cmp}
 use Rattle.std.specs.Cmp.Lexicographic.{slice_cmp}
 use Rattle.std.specs.Map.{lookup}
 use Rattle.std.specs.BTreeMap.{insert_entry, is_at}
@@ -14,12 +14,6 @@ use Rattle.types_core.specs.declared.keys.Keys.TheVariants as keys
 -- is the name one of these?
 abbrev pub is_there : List ℕ → List (List ℕ × ℕ) → Bool
 is_there n es = is_some (lookup (is_at (slice_cmp nat_cmp n)) es)
-
--- how many entries, from the first on, the name comes after
-abbrev pub place_among : List ℕ → List (List ℕ × ℕ) → ℕ
-place_among n [] = 0
-place_among n (e ∷ es) =
-    if is_gt (slice_cmp nat_cmp n e.0) then suc (place_among n es) else 0
 
 -- entries whose names are lent
 abbrev pub lent_entries : List (Bor (List ℕ) × ℕ) → List (List ℕ × ℕ)

@@ -3,17 +3,11 @@
 ghost use Rattle.std.specs.Prelude.{◌≡◌, ◌<◌, ◌^◌, ◌≤◌, ◌↔◌, [], Some, length, option_map};
 ghost use Rattle.std.specs.Prelude.{IfOk, IsTrue};
 ghost use Rattle.std.specs.List.{range_with_len};
-ghost use Rattle.types_core.specs.Keys.{AreKeys, is_there, key_order, lent_entries, order_from};
-ghost use Rattle.types_core.specs.Keys.{place_among, positions_of};
+ghost use Rattle.types_core.specs.Keys.{AreKeys, key_order, order_from, positions_of};
 
 use crate::definition::Field;
-use arrayvec::ArrayVec;
 use std::alloc::{AllocError, Global};
-use std::cmp::Ordering;
 use std::collections::BTreeMap;
-
-/// The most fields that are few: inserting so many names into a list costs less than a map.
-const FEW_FIELDS: usize = 8;
 
 /// How the values of fields are shown.
 #[derive(Debug, Drop)]
@@ -26,58 +20,9 @@ pub enum Keys {
     Sorted(Vec<u32>),
 }
 
-/// Returns whether the name is one of these.
-fn is_among(names: &[(&str, u32)], name: &str) -> bool
-    ensures { result ≡ is_there name.now (lent_entries names.now) }
-{
-    'names: for (other, _) in names {
-        if name == *other {
-            return true;
-        }
-    }
-    false
-}
-
-/// Returns how many of these names, from the first on, come before the name.
-fn place_among(names: &[(&str, u32)], name: &str) -> usize
-    ensures { result ≡ place_among name.now (lent_entries names.now) }
-{
-    let mut place = 0;
-    'names: while place < names.len() {
-        if name.cmp(names[place].0) != Ordering::Greater {
-            return place;
-        }
-        place += 1;
-    }
-    place
-}
-
-/// Returns the positions of few fields in the order of their names' bytes, if each has a name and
-/// all names differ. It inserts the names into a sorted list, and allocates nothing.
-fn order_of_few(fields: &[Field]) -> Option<ArrayVec<u32, FEW_FIELDS>>
-    requires { length fields.now ≤ FEW_FIELDS }
-    ensures { option_map (λ v. v.items) result
-        ≡ option_map positions_of (order_from fields.now 0 []) }
-{
-    let mut names: ArrayVec<(&str, u32), FEW_FIELDS> = ArrayVec::new();
-    'fields: for (position, field) in fields.iter().enumerate() {
-        let name = field.name.as_ref()?.as_str();
-        if is_among(names.as_slice(), name) {
-            return None;
-        }
-        let place = place_among(names.as_slice(), name);
-        names.insert(place, (name, position as u32));
-    }
-    let mut order = ArrayVec::new();
-    'names: for (_, position) in names.as_slice() {
-        order.push(*position);
-    }
-    Some(order)
-}
-
 /// Returns the positions of fields in the order of their names' bytes, if each has a name and all
 /// names differ. It inserts the names into a map: a look-up for each field.
-fn order_of_many(alloc: Global, fields: &[Field]) -> Result<Option<Vec<u32>>, AllocError>
+fn order_of(alloc: Global, fields: &[Field]) -> Result<Option<Vec<u32>>, AllocError>
     requires { length fields.now < 2 ^ 32 }
     ensures { IfOk result (λ found. option_map (λ v. v.items) found
         ≡ option_map positions_of (order_from fields.now 0 [])) }
@@ -129,15 +74,11 @@ pub(crate) fn keys_of(alloc: Global, fields: &[Field]) -> Result<Keys, AllocErro
     requires { length fields.now < 2 ^ 32 }
     ensures { IfOk result (λ keys. AreKeys fields.now keys) }
 {
-    match fields.len() {
-        0 => Ok(Keys::Unnamed),
-        1..=FEW_FIELDS => match order_of_few(fields) {
-            Some(order) => keys_in(alloc, fields, order.as_slice()),
-            None => Ok(Keys::Unnamed),
-        },
-        _ => match order_of_many(alloc, fields)? {
-            Some(order) => keys_in(alloc, fields, order.as_slice()),
-            None => Ok(Keys::Unnamed),
-        },
+    if fields.is_empty() {
+        return Ok(Keys::Unnamed);
+    }
+    match order_of(alloc, fields)? {
+        Some(order) => keys_in(alloc, fields, order.as_slice()),
+        None => Ok(Keys::Unnamed),
     }
 }

@@ -1,6 +1,6 @@
 use Rattle.std.proofs.Common.{◌≡◌, ◌++◌, [], map, drop}
 use Rattle.types_core.specs.Keys.{order_from, lent_entries}
-use Rattle.types_core.proofs.keys.order_of_many.Given as goal
+use Rattle.types_core.proofs.keys.order_of.Given as goal
 
 abbrev pub invariant-fields : goal.invariant-fields
 invariant-fields l = order_from l.fields 0 []

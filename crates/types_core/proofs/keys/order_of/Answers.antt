@@ -5,7 +5,7 @@ use Rattle.std.proofs.Math.ListN.{drop_of_length-le}
 use Rattle.types_core.specs.Keys.{order_from, lent_entries, positions_of}
 use Rattle.types_core.proofs.KeyOrders.{found_here, new_here, Lent, lent_positions}
 use Rattle.types_core.proofs.KeyMaps.{there_in_map, put_in_map}
-use Rattle.types_core.proofs.keys.order_of_many.Goals as goal
+use Rattle.types_core.proofs.keys.order_of.Goals as goal
 
 pub returns-then-is_some : goal.returns-then-is_some
 returns-then-is_some c =
