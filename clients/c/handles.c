@@ -294,6 +294,31 @@ static void check_orders(void) {
     }
 }
 
+/* A registry is lent until the last of 300 sessions is freed: from the first on, from the last on, and in two other orders. */
+static void check_many_sessions(void) {
+    enum { SESSIONS = 300 };
+    static const int steps[] = {1, SESSIONS - 1, 7, 149}; /* each has no factor in common with 300 */
+    static scaleview_session sessions[SESSIONS];
+    scaleview_answer answer;
+    for (size_t order = 0; order < sizeof steps / sizeof *steps; order++) {
+        scaleview_registry registry = {NULL};
+        int started = 0, lent = 0, freed = 0;
+        scaleview_open(u16_registry, sizeof u16_registry, 0, &registry, &answer);
+        for (int i = 0; i < SESSIONS; i++) {
+            sessions[i].inside = NULL;
+            started += scaleview_start(registry, 0, 64, 2, 0, &sessions[i], &answer) == SCALEVIEW_OK;
+        }
+        for (int i = 0; i < SESSIONS; i++) {
+            lent += scaleview_close(&registry) == SCALEVIEW_LENT;
+            freed += scaleview_free(&sessions[i * steps[order] % SESSIONS]) == SCALEVIEW_OK;
+        }
+        check("300 sessions are started", started == SESSIONS);
+        check("the registry is lent before each is freed", lent == SESSIONS);
+        check("each is freed", freed == SESSIONS);
+        check("the registry is closed after them", scaleview_close(&registry) == SCALEVIEW_OK);
+    }
+}
+
 /* The numbers that callers may have written down. */
 static void check_numbers(void) {
     check("answers", SCALEVIEW_OK == 0 && SCALEVIEW_MORE == 1 && SCALEVIEW_NO_ROOM == 2 && SCALEVIEW_MEMORY == 3 &&
@@ -606,6 +631,7 @@ int main(void) {
     check_memory();
     check_later_pieces();
     check_orders();
+    check_many_sessions();
     check_numbers();
     check_bits();
     check_null();

@@ -1,10 +1,11 @@
 /* Two registries with short values whose nodes or text are huge. With a budget of 64 MiB the calls return SCALEVIEW_MEMORY,
- * the process stays small, and a smaller value is decoded afterwards. */
+ * the process stays small, and a smaller value is decoded afterwards. And a long text byte by byte, in linear time. */
 #define _DEFAULT_SOURCE
 #include "registry_bytes.h"
 #include "scaleview.h"
 #include <stdio.h>
 #include <sys/resource.h>
+#include <time.h>
 
 enum { MIB = 1 << 20, BUDGET = 64 * MIB, PEAK = 160 * MIB, OUT_ROOM = 4 * MIB, NODE_ROOM = 1 << 18 };
 
@@ -119,8 +120,42 @@ static void check_hostile(struct hostile hostile) {
     printf("c: hostile: %s: at most %zu MiB resident\n", hostile.name, (peak() + MIB - 1) / MIB);
 }
 
+/* The processor time of a session that is fed a text of this many bytes, byte by byte. */
+static double seconds_of(scaleview_registry registry, uint32_t length) {
+    struct bytes value = {0};
+    scaleview_session session = {NULL};
+    scaleview_answer answer;
+    uint32_t code = SCALEVIEW_MORE;
+    put_compact(&value, length);
+    for (uint32_t i = 0; i < length; i++) put_byte(&value, 'a');
+    check("a text is started", scaleview_start(registry, 0, 64, 1 << 24, 0, &session, &answer) == SCALEVIEW_OK);
+    clock_t began = clock();
+    for (size_t i = 0; i < value.length; i++) code = scaleview_feed(&session, value.at + i, 1, &answer);
+    double seconds = (double)(clock() - began) / CLOCKS_PER_SEC;
+    check("a text byte by byte", code == SCALEVIEW_OK && answer.length == 1);
+    check("its session is freed", scaleview_free(&session) == SCALEVIEW_OK);
+    free(value.at);
+    return seconds;
+}
+
+/* A text of four times the bytes takes at most eight times as long, so none is looked at anew for each byte. */
+static void check_single_bytes(void) {
+    struct bytes bytes = {0};
+    scaleview_registry registry = {NULL};
+    scaleview_answer answer;
+    put_compact(&bytes, 1);
+    put_primitive(&bytes, 0, SCALEVIEW_STR);
+    check("a text is opened", scaleview_open(bytes.at, bytes.length, 0, &registry, &answer) == SCALEVIEW_OK);
+    free(bytes.at);
+    double small = seconds_of(registry, MIB), large = seconds_of(registry, 4 * MIB);
+    check("the time of single bytes", large < 8 * small);
+    check("it is closed", scaleview_close(&registry) == SCALEVIEW_OK);
+    printf("c: hostile: 4 MiB byte by byte: %.1f times the time of 1 MiB\n", large / small);
+}
+
 int main(void) {
     check_hostile(many_units());
     check_hostile(long_name());
+    check_single_bytes();
     return failures > 0;
 }
