@@ -20,7 +20,7 @@
  * Places and lengths are in bytes.
  *
  * Stack: scaleview_decode and scaleview_finish use stack for each level of a value while they write its JSON. Give them a
- * thread of 128 KiB for values of depth 64, and one of 1 MiB for depth 1024. They need up to 32 KiB and 392 KiB, as measured
+ * thread of 128 KiB for values of depth 64, and one of 1 MiB for depth 1024. They need up to 32 KiB and 408 KiB, as measured
  * on x86-64 with glibc. No other call needs more than 16 KiB, at any depth.
  */
 #ifndef SCALEVIEW_H
