@@ -23,4 +23,4 @@ pub use remaining::{Frame, Remaining};
 pub use scale_core::{WriteFault, send};
 pub use value::Value;
 pub use what::What;
-pub use writing::{encode, index_of, pooled};
+pub use writing::{encode, index_of, node_len, pooled};

@@ -156,6 +156,15 @@ pub fn pooled<'v>(node: &Node, pool: &'v [u8]) -> &'v [u8]
     }
 }
 
+/// Returns how many bytes a node has without those of its children.
+pub fn node_len(checked: &Checked, node: &Node, pool: &[u8]) -> usize
+    requires { IsInPool pool.now node.now.content }
+    ensures { result ≡ length (node_bytes checked.now.types pool.now node.now) }
+{
+    let mut front = [0; 17];
+    put_node(checked, node, pool, &mut front) + pooled(node, pool).len()
+}
+
 /// Writes the bytes of a node without those of its children, and returns how many they are.
 ///
 /// # Errors

@@ -60,6 +60,15 @@ impl Registry {
         Registry { types }
     }
 
+    /// Returns the types as a `Vec`: the one that the registry was created from, or an equal one.
+    pub fn into_types(self) -> Vec<TypeInfo>
+        ensures same { result.items ≡ self }
+        ensures fits { FitsRegistry result.items }
+    {
+        let Registry { types } = self;
+        types
+    }
+
     /// Returns the types in order. The type at position i has the id i.
     pub fn types(&self) -> &[TypeInfo]
         ensures same { result.now ≡ self.now }
