@@ -1,4 +1,6 @@
+pub mod Appended
 pub mod Decoded
+pub mod Metadatas
 pub mod PathTexts
 pub mod Registries
 pub mod TypeLines

@@ -1,5 +1,6 @@
 pub mod Describing
 pub mod Lines
+pub mod Named
 pub mod Opened
 pub mod Refused
 pub mod Values

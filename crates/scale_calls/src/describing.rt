@@ -11,6 +11,7 @@ ghost use Rattle.scale_calls.specs.Describing.{type_arm, type_definition, type_p
 ghost use Rattle.scale_calls.specs.Lines.{joined_segments};
 
 use crate::lines::joined;
+use chain_core::after_front;
 use registry_core::{Arm, Field, Text, TypeDef, TypeId};
 use std::alloc::{AllocError, Global};
 use widths_core::{Checked, Class};
@@ -174,14 +175,6 @@ pub fn type_path(alloc: Global, checked: &Checked, id: u32) -> Result<Option<Str
         Some(info) => Ok(Some(joined(alloc, info.path.as_slice())?)),
         None => Ok(None),
     }
-}
-
-/// Returns what follows a front of a text, or `None` if the text does not begin with it.
-fn after_front<'t>(text: &'t [u8], front: &[u8]) -> Option<&'t [u8]>
-    ensures { MatchOption result ((rest : List ℕ) → text.now ≢ front.now ++ rest)
-        (λ rest. text.now ≡ front.now ++ rest.now) }
-{
-    text.strip_prefix(front)
 }
 
 /// Returns what follows `::` and a segment, or `None` if the text does not begin with them.

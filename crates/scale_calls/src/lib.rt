@@ -4,6 +4,8 @@
 
 mod describing;
 mod lines;
+mod metadata;
+mod names;
 mod refusal;
 mod registry;
 mod value;
@@ -12,6 +14,8 @@ pub use describing::{
     Part, PartRefusal, arm_field, find_type, type_arm, type_definition, type_part, type_path,
 };
 pub use lines::{push_type_lines, type_line, version_line};
+pub use metadata::{MetadataRefusal, NamedMetadata, open_metadata};
+pub use names::{find_name, push_name_lines};
 pub use refusal::{RegistryRefusal, UnknownReference, ValueRefusal};
 pub use registry::{OpenOptions, OpenedRegistry, open_registry};
 pub use value::{read_value, value_text};

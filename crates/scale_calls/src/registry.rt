@@ -32,11 +32,11 @@ pub struct OpenedRegistry {
     pub end: usize,
 }
 
-/// Allows bits in a registry, if the options say so.
-fn allowed(registry: Registry, options: OpenOptions) -> Registry
-    ensures { result ≡ types_by options.bits registry }
+/// Allows bits in a registry, if they are wanted.
+pub(crate) fn allowed(registry: Registry, bits: bool) -> Registry
+    ensures { result ≡ types_by bits registry }
 {
-    if options.bits {
+    if bits {
         return registry.with_bits();
     }
     registry
@@ -101,7 +101,7 @@ pub fn open_registry(
 {
     let (registry, version, end) = registry_of(alloc, options, bytes)?;
     Ok(OpenedRegistry {
-        checked: checked(alloc, allowed(registry, options))?,
+        checked: checked(alloc, allowed(registry, options.bits))?,
         version,
         end,
     })

@@ -1,6 +1,6 @@
 use Rattle.std.proofs.lemmas.Bool.Decides.{Decides-eqb}
 use Rattle.std.proofs.lemmas.Slice.Eq.{strip_prefix_is}
-use Rattle.scale_calls.proofs.describing.after_front.Goals as goal
+use Rattle.chain_core.proofs.finding.after_front.Goals as goal
 
 pub returns : goal.returns
 returns c =

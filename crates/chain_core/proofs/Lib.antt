@@ -1,0 +1,4 @@
+-- For each module, where its proofs begin: Names for finding, SyntheticCounts for synthetic.
+pub mod Names
+pub mod OwnReferences
+pub mod SyntheticCounts

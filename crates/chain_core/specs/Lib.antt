@@ -1,0 +1,9 @@
+pub mod Extrinsics
+pub mod Finding
+pub mod Keys
+pub mod Listed
+pub mod Parts
+pub mod RestTypes
+pub mod Synthetic
+pub mod Things
+pub mod Unknown

@@ -1,0 +1,25 @@
+//! For crates: what a chain's metadata names in its rest, the part after its registry, and the
+//! types that stand for extrinsics, storage keys and the parameters of methods.
+#![tactic(auto)]
+
+mod extrinsics;
+mod finding;
+mod keys;
+mod listing;
+mod needs;
+mod own_references;
+mod parts;
+mod rest;
+mod synthetic;
+mod thing;
+mod unknown;
+
+pub use extrinsics::ExtrinsicTypes;
+pub use finding::{Found, after_front, find, place, push_name};
+pub use keys::{HashLength, KeyPart};
+pub use listing::list_things;
+pub use own_references::unknown_in_types;
+pub use rest::{REFERENCE, rest_root, rest_types};
+pub use synthetic::synthetic_types;
+pub use thing::{Meaning, Path, Section, Thing};
+pub use unknown::{UnknownInRest, unknown_in_rest};

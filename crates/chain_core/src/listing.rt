@@ -1,0 +1,369 @@
+//! All things that metadata names, in order.
+
+ghost use Rattle.std.specs.Prelude.{◌≡◌, IfOk, OnOk, flat_map, option_and_then, option_map};
+ghost use Rattle.chain_core.specs.Listed.{api_things, children_in, constant_thing, custom_thing};
+ghost use Rattle.chain_core.specs.Listed.{default_if, entry_things, extrinsic_thing, key_thing};
+ghost use Rattle.chain_core.specs.Listed.{method_things, outer_things, own_thing, pallet_things};
+ghost use Rattle.chain_core.specs.Listed.{params_thing, things};
+ghost use Rattle.chain_core.specs.Parts.{child, inner};
+ghost use Rattle.chain_core.specs.Things.{Adds, all_named, name_text, path_text};
+
+use crate::extrinsics::{ExtrinsicTypes, call_type, extrinsic_types, part_at};
+use crate::keys::{KeyPart, entry_value, key_parts};
+use crate::parts::{bytes_at, child, inner, inner_reference, reference_at, text_at};
+use crate::thing::{Meaning, Path, Section, Thing};
+use node_core::{NodeRef, What};
+use registry_core::{TypeInfo, Version};
+use std::alloc::{AllocError, Global};
+
+/// Appends a thing of a type of the registry, if its type is known.
+fn push_own<'v, 'r>(
+    things: &mut Vec<Thing<'v, 'r>>,
+    section: Section,
+    path: Path<'v>,
+    reference: Option<u32>,
+    bytes: Option<&'v [u8]>,
+) -> Result<(), AllocError>
+    ensures { OnOk result (Adds things.old.items things.new.items (own_thing
+        (name_text section path.entry) reference (option_map (λ s. s.now) bytes.entry))) }
+{
+    if let Some(id) = reference {
+        things.push(Thing {
+            section,
+            path,
+            meaning: Meaning::Own(id),
+            bytes,
+        })?;
+    }
+    Ok(())
+}
+
+/// Appends extrinsics, if their types are known.
+fn push_extrinsic<'v, 'r>(
+    things: &mut Vec<Thing<'v, 'r>>,
+    types: Option<ExtrinsicTypes>,
+) -> Result<(), AllocError>
+    ensures { OnOk result (Adds things.old.items things.new.items (extrinsic_thing types)) }
+{
+    if let Some(types) = types {
+        things.push(Thing {
+            section: Section::Extrinsic,
+            path: Path::Empty,
+            meaning: Meaning::Extrinsic(types),
+            bytes: None,
+        })?;
+    }
+    Ok(())
+}
+
+/// Appends extrinsics, and the enums of all calls, events and errors.
+fn push_outer<'v, 'r>(
+    version: Version,
+    own: &[TypeInfo],
+    rest: &NodeRef<'v, 'r>,
+    things: &mut Vec<Thing<'v, 'r>>,
+) -> Result<(), AllocError>
+    ensures { OnOk result (Adds things.old.items things.new.items
+        (outer_things version own.now rest.now)) }
+{
+    push_extrinsic(things, extrinsic_types(version, own, rest))?;
+    push_own(
+        things,
+        Section::Call,
+        Path::Empty,
+        call_type(version, own, rest),
+        None,
+    )?;
+    push_own(
+        things,
+        Section::Event,
+        Path::Empty,
+        part_at(rest, 4, 1),
+        None,
+    )?;
+    push_own(
+        things,
+        Section::Error,
+        Path::Empty,
+        part_at(rest, 4, 2),
+        None,
+    )
+}
+
+/// Returns the bytes of a storage entry's default value, if absent entries have it.
+fn default_of<'v>(entry: &NodeRef<'v, '_>) -> Option<&'v [u8]>
+    ensures { option_map (λ s. s.now) result ≡ default_if entry.now (child 1 entry.now) }
+{
+    match child(entry, 1)?.what() {
+        What::Arm { position: 1 } => bytes_at(entry, 3),
+        _ => None,
+    }
+}
+
+/// Appends the keys of a storage entry, if their parts are known.
+fn push_key<'v, 'r>(
+    things: &mut Vec<Thing<'v, 'r>>,
+    path: Path<'v>,
+    parts: Option<Vec<KeyPart>>,
+) -> Result<(), AllocError>
+    ensures { OnOk result (Adds things.old.items things.new.items
+        (key_thing (path_text path.entry) (option_map (λ v. v.items) parts))) }
+{
+    if let Some(parts) = parts {
+        things.push(Thing {
+            section: Section::Key,
+            path,
+            meaning: Meaning::Key(parts),
+            bytes: None,
+        })?;
+    }
+    Ok(())
+}
+
+/// Appends a storage entry and its keys.
+fn push_entry<'v, 'r>(
+    alloc: Global,
+    own: &[TypeInfo],
+    pallet: &'v str,
+    entry: &NodeRef<'v, 'r>,
+    things: &mut Vec<Thing<'v, 'r>>,
+) -> Result<(), AllocError>
+    ensures { OnOk result (Adds things.old.items things.new.items
+        (entry_things own.now pallet.now entry.now)) }
+{
+    let Some(ty) = child(entry, 2) else {
+        return Ok(());
+    };
+    let path = Path::Two(pallet, text_at(entry, 0));
+    push_own(
+        things,
+        Section::Storage,
+        path,
+        entry_value(&ty),
+        default_of(entry),
+    )?;
+    let parts = key_parts(alloc, own, &ty)?;
+    push_key(things, path, parts)
+}
+
+/// Appends storage entries and their keys.
+fn push_entries<'v, 'r>(
+    alloc: Global,
+    own: &[TypeInfo],
+    pallet: &'v str,
+    list: Option<NodeRef<'v, 'r>>,
+    things: &mut Vec<Thing<'v, 'r>>,
+) -> Result<(), AllocError>
+    ensures { OnOk result (Adds things.old.items things.new.items
+        (flat_map (entry_things own.now pallet.now) (children_in list.entry))) }
+{
+    let Some(list) = list else {
+        return Ok(());
+    };
+    'entries: for entry in list.children() {
+        push_entry(alloc, own, pallet, &entry, things)?;
+    }
+    Ok(())
+}
+
+/// Appends constants.
+fn push_constants<'v, 'r>(
+    pallet: &'v str,
+    list: Option<NodeRef<'v, 'r>>,
+    things: &mut Vec<Thing<'v, 'r>>,
+) -> Result<(), AllocError>
+    ensures { OnOk result (Adds things.old.items things.new.items
+        (flat_map (constant_thing pallet.now) (children_in list.entry))) }
+{
+    let Some(list) = list else {
+        return Ok(());
+    };
+    'constants: for constant in list.children() {
+        let path = Path::Two(pallet, text_at(&constant, 0));
+        let reference = reference_at(&constant, 1);
+        push_own(
+            things,
+            Section::Constant,
+            path,
+            reference,
+            bytes_at(&constant, 2),
+        )?;
+    }
+    Ok(())
+}
+
+/// Returns the list of a pallet's storage entries, if it has a storage.
+fn entries_of<'v, 'r>(pallet: &NodeRef<'v, 'r>) -> Option<NodeRef<'v, 'r>>
+    ensures { result ≡ option_and_then (child 1) (inner 1 pallet.now) }
+{
+    child(&inner(pallet, 1)?, 1)
+}
+
+/// Appends the enums of a pallet, its storage entries and its constants.
+fn push_pallet<'v, 'r>(
+    alloc: Global,
+    own: &[TypeInfo],
+    pallet: &NodeRef<'v, 'r>,
+    things: &mut Vec<Thing<'v, 'r>>,
+) -> Result<(), AllocError>
+    ensures { OnOk result (Adds things.old.items things.new.items
+        (pallet_things own.now pallet.now)) }
+{
+    let name = text_at(pallet, 0);
+    push_own(
+        things,
+        Section::Calls,
+        Path::One(name),
+        inner_reference(pallet, 2),
+        None,
+    )?;
+    push_own(
+        things,
+        Section::Events,
+        Path::One(name),
+        inner_reference(pallet, 3),
+        None,
+    )?;
+    push_own(
+        things,
+        Section::Errors,
+        Path::One(name),
+        inner_reference(pallet, 5),
+        None,
+    )?;
+    push_entries(alloc, own, name, entries_of(pallet), things)?;
+    push_constants(name, child(pallet, 4), things)
+}
+
+/// Appends pallets.
+fn push_pallets<'v, 'r>(
+    alloc: Global,
+    own: &[TypeInfo],
+    list: Option<NodeRef<'v, 'r>>,
+    things: &mut Vec<Thing<'v, 'r>>,
+) -> Result<(), AllocError>
+    ensures { OnOk result (Adds things.old.items things.new.items
+        (flat_map (pallet_things own.now) (children_in list.entry))) }
+{
+    let Some(list) = list else {
+        return Ok(());
+    };
+    'pallets: for pallet in list.children() {
+        push_pallet(alloc, own, &pallet, things)?;
+    }
+    Ok(())
+}
+
+/// Appends the parameters of a method, if there is a list of them.
+fn push_params<'v, 'r>(
+    things: &mut Vec<Thing<'v, 'r>>,
+    path: Path<'v>,
+    inputs: Option<NodeRef<'v, 'r>>,
+) -> Result<(), AllocError>
+    ensures { OnOk result (Adds things.old.items things.new.items
+        (params_thing (path_text path.entry) inputs.entry)) }
+{
+    if let Some(inputs) = inputs {
+        things.push(Thing {
+            section: Section::Params,
+            path,
+            meaning: Meaning::Params(inputs),
+            bytes: None,
+        })?;
+    }
+    Ok(())
+}
+
+/// Appends the result and the parameters of a method.
+fn push_method<'v, 'r>(
+    api: &'v str,
+    method: &NodeRef<'v, 'r>,
+    things: &mut Vec<Thing<'v, 'r>>,
+) -> Result<(), AllocError>
+    ensures { OnOk result (Adds things.old.items things.new.items
+        (method_things api.now method.now)) }
+{
+    let path = Path::Two(api, text_at(method, 0));
+    push_own(things, Section::Result, path, reference_at(method, 2), None)?;
+    push_params(things, path, child(method, 1))
+}
+
+/// Appends the results and the parameters of the methods of an api.
+fn push_api<'v, 'r>(
+    api: &NodeRef<'v, 'r>,
+    things: &mut Vec<Thing<'v, 'r>>,
+) -> Result<(), AllocError>
+    ensures { OnOk result (Adds things.old.items things.new.items (api_things api.now)) }
+{
+    let name = text_at(api, 0);
+    let Some(methods) = child(api, 1) else {
+        return Ok(());
+    };
+    'methods: for method in methods.children() {
+        push_method(name, &method, things)?;
+    }
+    Ok(())
+}
+
+/// Appends apis.
+fn push_apis<'v, 'r>(
+    list: Option<NodeRef<'v, 'r>>,
+    things: &mut Vec<Thing<'v, 'r>>,
+) -> Result<(), AllocError>
+    ensures { OnOk result (Adds things.old.items things.new.items
+        (flat_map api_things (children_in list.entry))) }
+{
+    let Some(list) = list else {
+        return Ok(());
+    };
+    'apis: for api in list.children() {
+        push_api(&api, things)?;
+    }
+    Ok(())
+}
+
+/// Appends custom values.
+fn push_customs<'v, 'r>(
+    list: Option<NodeRef<'v, 'r>>,
+    things: &mut Vec<Thing<'v, 'r>>,
+) -> Result<(), AllocError>
+    ensures { OnOk result (Adds things.old.items things.new.items
+        (flat_map custom_thing (children_in list.entry))) }
+{
+    let Some(list) = list else {
+        return Ok(());
+    };
+    'values: for value in list.children() {
+        let path = Path::One(text_at(&value, 0));
+        push_own(
+            things,
+            Section::Custom,
+            path,
+            reference_at(&value, 1),
+            bytes_at(&value, 2),
+        )?;
+    }
+    Ok(())
+}
+
+/// Returns all things that metadata names, in order: by what follows its registry, and by the types
+/// of the registry.
+///
+/// # Errors
+///
+/// `AllocError` if an allocation fails.
+pub fn list_things<'v, 'r>(
+    alloc: Global,
+    version: Version,
+    own: &[TypeInfo],
+    rest: &NodeRef<'v, 'r>,
+) -> Result<Vec<Thing<'v, 'r>>, AllocError>
+    ensures { IfOk result (λ list. all_named list.items ≡ things version own.now rest.now) }
+{
+    let mut things = Vec::new(alloc);
+    push_outer(version, own, rest, &mut things)?;
+    push_pallets(alloc, own, child(rest, 0), &mut things)?;
+    push_apis(child(rest, 3), &mut things)?;
+    push_customs(child(rest, 5), &mut things)?;
+    Ok(things)
+}

@@ -1,0 +1,233 @@
+//! Opens metadata with the names that it gives to types.
+
+ghost use Rattle.std.specs.Prelude.{◌≡◌, ◌+◌, ◌++◌, ◌<◌, ◌≤◌, ◌^◌, drop, length, Some, IfOk, IfErr};
+ghost use Rattle.std.specs.List.{AllByRecursion};
+ghost use Rattle.types_core.specs.Fits.{FitsType};
+ghost use Rattle.chain_core.specs.Listed.{things};
+ghost use Rattle.chain_core.specs.RestTypes.{rest_types};
+ghost use Rattle.chain_core.specs.Synthetic.{synthetic};
+ghost use Rattle.scale_calls.specs.Named.{IsKnown, IsMetadata, Metadata, RefusesMetadata};
+ghost use Rattle.scale_calls.specs.Named.{RefusesReferences, RefusesRest, all_types, rest_in};
+ghost use Rattle.scale_calls.specs.Named.{metadata_refusal, shifted};
+
+use crate::refusal::{UnknownReference, ValueRefusal};
+use crate::registry::allowed;
+use crate::value::read_value;
+use chain_core::{list_things, rest_root, synthetic_types, unknown_in_rest, unknown_in_types};
+use decode_core::DecodeFault;
+use registry_core::{Registry, RegistryFault, RegistryReason, TypeInfo, Version, read_metadata};
+use std::alloc::{AllocError, Global};
+use value_core::{Limits, Value};
+use widths_core::{CheckFault, Checked};
+
+/// Why bytes are no metadata with names. Places are counted from the first byte of the metadata.
+#[derive(Clone, Copy, Debug, PartialEq, Eq)]
+pub enum MetadataRefusal {
+    /// The first fault of the prefix or of the registry.
+    Registry(RegistryFault),
+    /// The first fault of what follows the registry.
+    Rest(DecodeFault),
+    /// Bytes follow the metadata, which ends at this place.
+    TrailingBytes(u64),
+    /// What follows the registry refers, at the place `at`, to a type that the registry lacks.
+    UnknownReference { ty: u32, at: u64 },
+    /// A type refers to one that the registry lacks.
+    Check(UnknownReference),
+    /// An allocation failed.
+    Memory,
+}
+
+impl From<AllocError> for MetadataRefusal {
+    ghost use Rattle.scale_calls.specs.declared.metadata.MetadataRefusal.TheVariants.{Memory};
+
+    ghost from_gives = { λ _ r. r ≡ Memory };
+
+    fn from(_error: AllocError) -> MetadataRefusal {
+        MetadataRefusal::Memory
+    }
+}
+
+/// Metadata whose names are known.
+#[derive(Drop)]
+pub struct NamedMetadata<'r> {
+    /// The types of its registry, and the synthetic ones after them.
+    pub checked: Checked,
+    pub version: Version,
+    /// How many types the registry has.
+    pub own: u32,
+    /// What follows the registry.
+    pub rest: Value<'r, Global>,
+}
+
+/// Returns the refusal of a fault of the registry; a failed allocation is no fault of the bytes.
+fn registry_refusal(fault: RegistryFault) -> MetadataRefusal
+    ensures { result ≡ metadata_refusal fault }
+{
+    match fault.reason {
+        RegistryReason::OutOfMemory => MetadataRefusal::Memory,
+        _ => MetadataRefusal::Registry(fault),
+    }
+}
+
+/// Returns a place behind the first `end` bytes.
+fn shifted(end: usize, at: u64) -> u64
+    ensures { result ≡ shifted end at }
+{
+    at.saturating_add(end as u64)
+}
+
+/// Returns the bytes from a place on.
+fn from_place(bytes: &[u8], end: usize) -> &[u8]
+    requires { end ≤ length bytes.now }
+    ensures { result.now ≡ drop end bytes.now }
+{
+    let (_, left) = bytes.split_at(end);
+    left
+}
+
+/// Reads what follows the registry, which is all of `bytes`. They begin at the place `end`.
+fn read_rest<'r>(
+    alloc: Global,
+    types: &'r Checked,
+    version: Version,
+    bytes: &[u8],
+    end: usize,
+) -> Result<Value<'r, Global>, MetadataRefusal>
+    requires same { types.now.types ≡ rest_types }
+    requires count { length rest_types ≡ 37 }
+    ensures ok { IfOk result (λ rest. rest_in version bytes.now ≡ Some rest) }
+    ensures err { IfErr result (RefusesRest version bytes.now end) }
+{
+    let limits = Limits {
+        depth: 64,
+        bytes: 1 << 28,
+    };
+    match read_value(alloc, types, rest_root(version).0, limits, bytes) {
+        Ok(rest) => Ok(rest),
+        Err(ValueRefusal::Fault(fault)) => Err(MetadataRefusal::Rest(DecodeFault {
+            reason: fault.reason,
+            at: shifted(end, fault.at),
+        })),
+        Err(ValueRefusal::TrailingBytes(at)) => {
+            Err(MetadataRefusal::TrailingBytes(shifted(end, at)))
+        }
+        Err(ValueRefusal::UnknownType | ValueRefusal::LimitOutOfRange | ValueRefusal::Memory) => {
+            Err(MetadataRefusal::Memory)
+        }
+    }
+}
+
+/// Appends types to those of a registry.
+fn extended(registry: Registry, more: Vec<TypeInfo>) -> Result<Registry, AllocError>
+    requires fits { AllByRecursion FitsType more.items }
+    requires few { length registry + length more.items < 2 ^ 32 }
+    ensures { IfOk result (λ r. r ≡ registry ++ more.items) }
+{
+    let mut types = registry.into_types();
+    let mut more = more;
+    types.append(&mut more)?;
+    Ok(Registry::from_types(types))
+}
+
+/// Returns the synthetic types of metadata.
+fn made_types(
+    alloc: Global,
+    version: Version,
+    own: &[TypeInfo],
+    rest: &Value<'_, Global>,
+) -> Result<Vec<TypeInfo>, AllocError>
+    ensures exact { IfOk result
+        (λ made. made.items ≡ synthetic own.now (things version own.now rest.now)) }
+    ensures fits { IfOk result (λ made. AllByRecursion FitsType made.items) }
+    ensures few { IfOk result (λ made. length own.now + length made.items < 2 ^ 32) }
+{
+    let root = rest.root();
+    let things = list_things(alloc, version, own, &root)?;
+    // A registry has at most 2^32 - 1 types.
+    if own.len() + things.len() + 4 > u32::MAX as usize {
+        return Err(AllocError);
+    }
+    synthetic_types(alloc, own, things.as_slice())
+}
+
+/// Checks the references of metadata, whose registry ends at the place `end`, and appends the
+/// synthetic types to those of the registry.
+fn check_references(
+    alloc: Global,
+    version: Version,
+    registry: Registry,
+    rest: &Value<'_, Global>,
+    end: usize,
+) -> Result<Checked, MetadataRefusal>
+    ensures ok { IfOk result (λ c.
+        (c.types ≡ all_types (record { version = version; own = registry; rest = rest.now }))
+        × IsKnown (record { version = version; own = registry; rest = rest.now })) }
+    ensures err { IfErr result (RefusesReferences
+        (record { version = version; own = registry; rest = rest.now }) end) }
+{
+    if let Some(unknown) = unknown_in_rest(rest, registry.types().len()) {
+        return Err(MetadataRefusal::UnknownReference {
+            ty: unknown.ty,
+            at: shifted(end, unknown.place),
+        });
+    }
+    if let Some((from, to)) = unknown_in_types(registry.types()) {
+        return Err(MetadataRefusal::Check(UnknownReference { from, to }));
+    }
+    let made = made_types(alloc, version, registry.types(), rest)?;
+    let registry = extended(registry, made)?;
+    match Checked::new(alloc, registry) {
+        Ok(checked) => Ok(checked),
+        Err((CheckFault::UnknownType { from, to }, _)) => {
+            Err(MetadataRefusal::Check(UnknownReference {
+                from: from.0,
+                to: to.0,
+            }))
+        }
+        Err((CheckFault::OutOfMemory, _)) => Err(MetadataRefusal::Memory),
+    }
+}
+
+/// Opens metadata with the names that it gives to types: reads its registry and what follows that,
+/// which `types` are the types of ([`rest_types`](chain_core::rest_types)). With `bits`, bit
+/// sequences of a known store and order are read.
+///
+/// # Errors
+///
+/// The first that applies:
+///
+/// - `Registry`: the first fault of the prefix or of the registry.
+/// - `Rest`: the first fault of what follows the registry.
+/// - `TrailingBytes` at the end of that, if bytes follow it.
+/// - `UnknownReference`: the first reference there to a type that the registry lacks.
+/// - `Check`: the first reference of a type to one that the registry lacks.
+/// - `Memory` if an allocation fails, or if there are 2^32 types and names or more.
+pub fn open_metadata<'r>(
+    alloc: Global,
+    types: &'r Checked,
+    bits: bool,
+    bytes: &[u8],
+) -> Result<NamedMetadata<'r>, MetadataRefusal>
+    requires same { types.now.types ≡ rest_types }
+    requires count { length rest_types ≡ 37 }
+    ensures ok { IfOk result (λ m. (x : Metadata) × IsMetadata bits bytes.now x
+        × (x.version ≡ m.version) × (x.rest ≡ m.rest) × (m.own ≡ length x.own)
+        × (m.checked.types ≡ all_types x)) }
+    ensures err { IfErr result (RefusesMetadata bits bytes.now) }
+{
+    let (registry, end, version) = match read_metadata(alloc, bytes) {
+        Ok(read) => read,
+        Err(fault) => return Err(registry_refusal(fault)),
+    };
+    let left = from_place(bytes, end);
+    let rest = read_rest(alloc, types, version, left, end)?;
+    let registry = allowed(registry, bits);
+    let own = registry.types().len() as u32;
+    let checked = check_references(alloc, version, registry, &rest, end)?;
+    Ok(NamedMetadata {
+        checked,
+        version,
+        own,
+        rest,
+    })
+}
