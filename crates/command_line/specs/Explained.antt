@@ -11,7 +11,7 @@ use Rattle.command_line.specs.declared.device.Device.TheVariants as device
 use Rattle.command_line.specs.declared.jobs.JobFault.{JobFault}
 use Rattle.command_line.specs.declared.jobs.JobFault.TheVariants as fault
 
--- the line is wrong, and asks for no help
+-- the line is wrong, and asks neither for help nor for the version
 abbrev pub IsMistake : Error → Type 0
 IsMistake e = (kind_of e ≢ DisplayHelp) × (kind_of e ≢ DisplayVersion)
 

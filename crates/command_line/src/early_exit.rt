@@ -20,14 +20,14 @@ pub fn unopened<E: Write>(device: Device, err: &mut Sink<E>) -> u8
     3
 }
 
-/// Reports why a command line names no job, and returns the status: 0 if it asks for help, whose
-/// text goes to `out`; 2 for a usage error; 3 if the help could not be written; and 4 if an
-/// allocation failed.
+/// Reports why a command line names no job, and returns the status: 0 if it asks for help or the
+/// version, whose text goes to `out`; 2 for a usage error; 3 if that text could not be written; and
+/// 4 if an allocation failed.
 ///
-/// At 0 the complete text of the help was appended to `out`, and `err` is untouched. At 3 a
-/// beginning of it was, and `err` got the line of a failed output. Otherwise nothing was written to
-/// `out`, and `err` got the text of `clap` or one line. A failed write to `err` changes no status.
-/// It allocates nothing.
+/// At 0 the complete text was appended to `out`, and `err` is untouched. At 3 a beginning of it
+/// was, and `err` got the line of a failed output. Otherwise nothing was written to `out`, and
+/// `err` got the text of `clap` or one line. A failed write to `err` changes no status. It
+/// allocates nothing.
 pub fn explain<W: Write, E: Write>(fault: JobFault, out: &mut Sink<W>, err: &mut Sink<E>) -> u8
     ensures status { IsStatusOf fault result }
     ensures shown { result ≡ 0 →

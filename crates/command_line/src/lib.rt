@@ -6,9 +6,12 @@ mod commands;
 mod device;
 mod early_exit;
 mod jobs;
+mod matches;
+mod names;
 mod task;
 
 pub use device::Device;
 pub use early_exit::{explain, unopened};
 pub use jobs::{JobFault, job};
-pub use task::Job;
+pub use names::is_name;
+pub use task::{DecodeJob, Job, ValueSource, Wanted};

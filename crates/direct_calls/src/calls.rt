@@ -207,7 +207,7 @@ pub(crate) fn write_registry_line(alloc: Global) -> Option<&'static str> {
 pub(crate) fn job_line(alloc: Global, words: &[&str]) -> &'static str {
     match job(alloc, words) {
         Ok((Job::Types { .. }, _, None)) => "job: types\n",
-        Ok((Job::Decode { .. }, _, Some(_))) => "job: decode\n",
+        Ok((Job::Decode(_), _, Some(_))) => "job: decode\n",
         Ok(_) => OTHER,
         Err(JobFault::Line { .. }) => "job: what clap says of the line\n",
         Err(JobFault::Usage) => "job: usage\n",

@@ -1,6 +1,7 @@
 pub mod Answer
 pub mod Devices
 pub mod Moved
+pub mod Opaque
 pub mod Refused
 pub mod Reported
 pub mod Values

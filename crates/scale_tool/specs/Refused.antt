@@ -3,6 +3,8 @@ use Rattle.std.specs.Prelude.{◌≡◌, ℕ}
 use Rattle.decode_core.specs.declared.stream.StreamFault.{StreamFault}
 use Rattle.decode_core.specs.declared.stream.StreamFault.TheVariants as stream
 use Rattle.scale_calls.specs.Refused.{opening_refusal, value_refusal}
+use Rattle.scale_calls.specs.declared.metadata.MetadataRefusal.{MetadataRefusal}
+use Rattle.scale_calls.specs.declared.metadata.MetadataRefusal.TheVariants as metadata
 use Rattle.scale_calls.specs.declared.refusal.RegistryRefusal.{RegistryRefusal}
 use Rattle.scale_calls.specs.declared.refusal.RegistryRefusal.TheVariants as types
 use Rattle.scale_calls.specs.declared.refusal.ValueRefusal.{ValueRefusal}
@@ -36,6 +38,15 @@ refusal_of_registry (types.Fault fault) = refusal.Registry fault
 refusal_of_registry (types.TrailingBytes at) = refusal.TrailingRegistry at
 refusal_of_registry (types.Check unknown) = refusal.Check unknown
 refusal_of_registry types.Memory = refusal.Memory
+
+-- the refusal of a job with names
+abbrev pub refusal_of_metadata : MetadataRefusal → Refusal
+refusal_of_metadata (metadata.Registry fault) = refusal.Registry fault
+refusal_of_metadata (metadata.Rest fault) = refusal.Rest fault
+refusal_of_metadata (metadata.TrailingBytes at) = refusal.TrailingRegistry at
+refusal_of_metadata (metadata.UnknownReference ty at) = refusal.UnknownReference ty at
+refusal_of_metadata (metadata.Check unknown) = refusal.Check unknown
+refusal_of_metadata metadata.Memory = refusal.Memory
 
 -- the exit status if a registry's bytes are rejected
 abbrev pub status_of_registry : RegistryRefusal → ℕ

@@ -1,24 +1,31 @@
 -- What the command reports if it writes no text: the line of a refusal, and what that says about
 -- the job's files.
-use Rattle.std.specs.Prelude.{◌≡◌, ◌≤◌, ℕ, List, [], ◌∷◌, ◌++◌, length, Bool, codes, decimal}
-use Rattle.std.specs.Prelude.{Option, Some, IfSome, false}
+use Rattle.std.specs.Prelude.{◌≡◌, ◌≤◌, ℕ, List, [], ◌∷◌, ◌++◌, length, codes, decimal}
+use Rattle.std.specs.Prelude.{Option, Some, IfSome, false, string_bytes}
+use Rattle.serde_json.specs.Data.{string}
+use Rattle.serde_json.specs.Written.{compact_text}
 use Rattle.types_core.specs.declared.type_info.TypeInfo.{TypeInfo}
 use Rattle.registry_core.specs.Names.{registry_fault_text}
 use Rattle.decode_core.specs.Names as decode
+use Rattle.decode_core.specs.Streaming.{query_of}
 use Rattle.scale_calls.specs.Opened.{RefusesRegistry, checked_of}
 use Rattle.scale_calls.specs.declared.refusal.RegistryRefusal.TheVariants as types
 use Rattle.scale_calls.specs.declared.registry.OpenOptions.{OpenOptions}
-use Rattle.scale_tool.specs.Answer.{opened_by, types_with}
-use Rattle.command_line.specs.Explained.{device_line}
-use Rattle.scale_tool.specs.Refused.{status_of}
-use Rattle.scale_tool.specs.Values.{ReportsFile, decoding}
-use Rattle.command_line.specs.declared.device.Device.TheVariants as device
 use Rattle.hex_text.specs.declared.fault.HexFault.{HexFault}
 use Rattle.hex_text.specs.declared.fault.HexFault.TheVariants as hex
-use Rattle.scale_tool.specs.declared.refusal.Refusal.{Refusal}
-use Rattle.scale_tool.specs.declared.refusal.Refusal.TheVariants as refusal
+use Rattle.command_line.specs.Explained.{device_line}
+use Rattle.command_line.specs.declared.device.Device.TheVariants as device
+use Rattle.command_line.specs.declared.task.DecodeJob.{DecodeJob}
 use Rattle.command_line.specs.declared.task.Job.{Job}
 use Rattle.command_line.specs.declared.task.Job.TheVariants as job
+use Rattle.command_line.specs.declared.task.Wanted.{Wanted}
+use Rattle.command_line.specs.declared.task.Wanted.TheVariants as wanted
+use Rattle.scale_tool.specs.Answer.{decode_options, opened_by, types_with, value_job}
+use Rattle.scale_tool.specs.Refused.{status_of}
+use Rattle.scale_tool.specs.Values.{ReportsFile}
+use Rattle.scale_tool.specs.declared.form.ValueJob.{ValueJob}
+use Rattle.scale_tool.specs.declared.refusal.Refusal.{Refusal}
+use Rattle.scale_tool.specs.declared.refusal.Refusal.TheVariants as refusal
 
 -- ---- lines
 
@@ -32,77 +39,118 @@ abbrev pub hex_line : HexFault → List ℕ
 hex_line (hex.Odd at) = placed_line (codes "value") (codes "OddHex") at
 hex_line (hex.Bad at) = placed_line (codes "value") (codes "BadHex") at
 
--- the line of a refusal
-abbrev pub refusal_line : Refusal → List ℕ
-refusal_line (refusal.Registry f) =
+-- the line that says what is wrong with a name, which stands there as a JSON text
+abbrev pub name_line : List ℕ → List ℕ → List ℕ
+name_line reason name = codes "scaleview: type: " ++ (reason
+    ++ (32 ∷ (compact_text (string name) ++ 10 ∷ [])))
+
+-- the line of a refusal, for a job whose type has this name
+abbrev pub refusal_line : List ℕ → Refusal → List ℕ
+refusal_line name (refusal.Registry f) =
     codes "scaleview: registry: " ++ (registry_fault_text f ++ 10 ∷ [])
-refusal_line (refusal.TrailingRegistry at) =
+refusal_line name (refusal.TrailingRegistry at) =
     placed_line (codes "registry") (codes "TrailingBytes") at
-refusal_line (refusal.Check unknown) = codes
+refusal_line name (refusal.Check unknown) = codes
     "scaleview: check: UnknownType " ++ (decimal
     unknown.to ++ (codes " in type " ++ (decimal unknown.from ++ 10 ∷ [])))
-refusal_line (refusal.UnknownType id) =
+refusal_line name (refusal.Rest f) =
+    codes "scaleview: registry: " ++ (decode.fault_text f ++ 10 ∷ [])
+refusal_line name (refusal.UnknownReference ty at) = codes
+    "scaleview: registry: UnknownReference to type " ++ (decimal
+    ty ++ (codes " at " ++ (decimal at ++ 10 ∷ [])))
+refusal_line name (refusal.UnknownType id) =
     codes "scaleview: type: UnknownType " ++ decimal id ++ 10 ∷ []
-refusal_line (refusal.Hex f) = hex_line f
-refusal_line (refusal.Value f) = codes "scaleview: value: " ++ (decode.fault_text f ++ 10 ∷ [])
-refusal_line (refusal.TrailingValue at) = placed_line (codes "value") (codes "TrailingBytes") at
-refusal_line refusal.RegistryDevice = device_line device.Registry
-refusal_line refusal.ValueDevice = device_line device.Value
-refusal_line refusal.OutputDevice = device_line device.Output
-refusal_line refusal.Memory = codes "scaleview: memory\n"
+refusal_line name refusal.UnknownName = name_line (codes "UnknownName") name
+refusal_line name refusal.NoBytes = name_line (codes "NoBytes") name
+refusal_line name (refusal.Hex f) = hex_line f
+refusal_line name (refusal.Value f) =
+    codes "scaleview: value: " ++ (decode.fault_text f ++ 10 ∷ [])
+refusal_line name (refusal.TrailingValue at) =
+    placed_line (codes "value") (codes "TrailingBytes") at
+refusal_line name refusal.RegistryDevice = device_line device.Registry
+refusal_line name refusal.ValueDevice = device_line device.Value
+refusal_line name refusal.OutputDevice = device_line device.Output
+refusal_line name refusal.Memory = codes "scaleview: memory\n"
 
 -- ---- what a refusal says
 
--- how the job opens its registry
-abbrev pub job_options : Job → OpenOptions
-job_options (job.Types metadata) = opened_by metadata false
-job_options (job.Decode id metadata bits hex depth) = opened_by metadata bits
+-- the place of the refusal is this position, and the registry has no such position
+abbrev pub LacksPosition : OpenOptions → ℕ → ℕ → List ℕ → Type 0
+LacksPosition options id at registry = (at ≡ id) × ((types : List TypeInfo)
+    × (checked_of options registry ≡ Some types) × (length types ≤ id))
 
--- the position is that of the type of the job's value, and the registry has no such position
-abbrev pub LacksType : Job → ℕ → List ℕ → Type 0
-LacksType (job.Types metadata) at registry = ⊥
-LacksType (job.Decode id metadata bits hex depth) at registry = (at ≡ id) × ((types : List TypeInfo)
-    × (checked_of (opened_by metadata bits) registry ≡ Some types) × (length types ≤ id))
+-- the file of a value of these types is rejected with this refusal
+abbrev pub FaultsTyped : ValueJob → List TypeInfo → Option (List ℕ) → Refusal → Type 0
+FaultsTyped v types file e = ReportsFile v.form (query_of types v.id v.limits) file e
 
 -- the registry isn't rejected, and the value's file is, with this refusal
-abbrev pub FaultsValue : Job → Option (List ℕ) → Option (List ℕ) → Refusal → Type 0
-FaultsValue (job.Types metadata) registry value e = ⊥
-FaultsValue (job.Decode id metadata bits hex depth) registry value e = (types : List TypeInfo)
-    × IfSome registry (λ r. types_with (opened_by metadata bits) id r ≡ Some types)
-    × ReportsFile hex (decoding id depth types) value e
+abbrev pub FaultsFile : OpenOptions → ValueJob → Option (List ℕ) → Option (List ℕ) → Refusal →
+    Type 0
+FaultsFile options v registry file e = (types : List TypeInfo)
+    × IfSome registry (λ r. types_with options v.id r ≡ Some types) × FaultsTyped v types file e
+
+-- what a refusal says: about the bytes of a registry that is opened with these options, if they
+-- are known; about a type that the registry lacks; and about the value
+abbrev pub FaultsBy : OpenOptions → (ℕ → List ℕ → Type 0) → (Refusal → Type 0) →
+    Option (List ℕ) → Refusal → Type 0
+FaultsBy options Lacks Value r (refusal.Registry f) =
+    IfSome r (λ b. RefusesRegistry options b (types.Fault f))
+FaultsBy options Lacks Value r (refusal.TrailingRegistry at) =
+    IfSome r (λ b. RefusesRegistry options b (types.TrailingBytes at))
+FaultsBy options Lacks Value r (refusal.Check unknown) =
+    IfSome r (λ b. RefusesRegistry options b (types.Check unknown))
+FaultsBy options Lacks Value r (refusal.UnknownType at) = IfSome r (Lacks at)
+FaultsBy options Lacks Value r (refusal.Hex f) = Value (refusal.Hex f)
+FaultsBy options Lacks Value r (refusal.Value f) = Value (refusal.Value f)
+FaultsBy options Lacks Value r (refusal.TrailingValue at) = Value (refusal.TrailingValue at)
+FaultsBy options Lacks Value r refusal.RegistryDevice = Unit {0}
+FaultsBy options Lacks Value r refusal.ValueDevice = Unit {0}
+FaultsBy options Lacks Value r refusal.OutputDevice = ⊥
+FaultsBy options Lacks Value r refusal.Memory = Unit {0}
+FaultsBy options Lacks Value r (refusal.Rest f) = ⊥
+FaultsBy options Lacks Value r (refusal.UnknownReference ty at) = ⊥
+FaultsBy options Lacks Value r refusal.UnknownName = ⊥
+FaultsBy options Lacks Value r refusal.NoBytes = ⊥
+
+-- what a refusal says if the registry alone is read
+abbrev pub FaultsRegistry : OpenOptions → Option (List ℕ) → Refusal → Type 0
+FaultsRegistry options r e = FaultsBy options (λ at b. ⊥) (λ f. ⊥) r e
+
+-- the same if the type at a position is looked for in it
+abbrev pub FaultsType : OpenOptions → ℕ → Option (List ℕ) → Refusal → Type 0
+FaultsType options id r e = FaultsBy options (LacksPosition options id) (λ f. ⊥) r e
+
+-- the same if a value of that type is read
+abbrev pub FaultsLine : OpenOptions → ValueJob → Option (List ℕ) → Option (List ℕ) → Refusal →
+    Type 0
+FaultsLine options v r file e =
+    FaultsBy options (LacksPosition options v.id) (FaultsFile options v r file) r e
+
+-- a refusal of a job with names: nothing was written yet
+abbrev pub IsNoOutput : Refusal → Type 0
+IsNoOutput refusal.OutputDevice = ⊥
+IsNoOutput _ = Unit {0}
+
+-- what a refusal says about a value of the type that a job gives
+abbrev pub FaultsWanted : Wanted → DecodeJob → Option (List ℕ) → Option (List ℕ) → Refusal → Type 0
+FaultsWanted (wanted.Id id) d registry file e =
+    FaultsLine (decode_options d) (value_job id d) registry file e
+FaultsWanted (wanted.Name name) d registry file e = IsNoOutput e
 
 -- what a refusal says about the bytes of the registry and the value, if these are known
 abbrev pub Faults : Job → Option (List ℕ) → Option (List ℕ) → Refusal → Type 0
-Faults j r v (refusal.Registry f) =
-    IfSome r (λ b. RefusesRegistry (job_options j) b (types.Fault f))
-Faults j r v (refusal.TrailingRegistry at) =
-    IfSome r (λ b. RefusesRegistry (job_options j) b (types.TrailingBytes at))
-Faults j r v (refusal.Check unknown) =
-    IfSome r (λ b. RefusesRegistry (job_options j) b (types.Check unknown))
-Faults j r v (refusal.UnknownType at) = IfSome r (LacksType j at)
-Faults j r v (refusal.Hex f) = FaultsValue j r v (refusal.Hex f)
-Faults j r v (refusal.Value f) = FaultsValue j r v (refusal.Value f)
-Faults j r v (refusal.TrailingValue at) = FaultsValue j r v (refusal.TrailingValue at)
-Faults j r v refusal.RegistryDevice = Unit {0}
-Faults j r v refusal.ValueDevice = Unit {0}
-Faults j r v refusal.OutputDevice = ⊥
-Faults j r v refusal.Memory = Unit {0}
+Faults (job.Types metadata) r v e = FaultsRegistry (opened_by metadata false) r e
+Faults job.Names r v e = IsNoOutput e
+Faults (job.Decode d) r v e = FaultsWanted d.wanted d r v e
 
--- the same for any job with this registry
-abbrev pub FaultsRegistry : OpenOptions → Option (List ℕ) → Refusal → Type 0
-FaultsRegistry options registry e = (j : Job) (value : Option (List ℕ)) →
-    job_options j ≡ options → Faults j registry value e
+-- the name that a job has for its type, or none
+abbrev pub name_in : Wanted → List ℕ
+name_in (wanted.Id id) = []
+name_in (wanted.Name name) = string_bytes name
 
--- the same for any job with a value of the type at this position
-abbrev pub FaultsType : OpenOptions → ℕ → Option (List ℕ) → Refusal → Type 0
-FaultsType options id registry e = (hex : Bool) (depth : ℕ) (value : Option (List ℕ)) →
-    Faults (job.Decode id options.metadata options.bits hex depth) registry value e
-
--- the same for a job with a value
-abbrev pub FaultsDecode : OpenOptions → Bool → ℕ → ℕ → Option (List ℕ) → Option (List ℕ) → Refusal →
-    Type 0
-FaultsDecode options hex id depth registry value e =
-    Faults (job.Decode id options.metadata options.bits hex depth) registry value e
+abbrev pub job_name : Job → List ℕ
+job_name (job.Decode d) = name_in d.wanted
+job_name _ = []
 
 -- the device of the refusal failed, or the refusal says this about the files
 abbrev pub Stands : Type 0 → Type 0 → Type 0 → (Refusal → Type 0) → Refusal → Type 0
@@ -111,6 +159,8 @@ Stands registry value out Says refusal.ValueDevice = value
 Stands registry value out Says refusal.OutputDevice = out
 Stands registry value out Says e = Says e
 
--- the status is that of a refusal for which this holds, and whose line was sent
-abbrev pub Reports : (Refusal → Type 0) → (List ℕ → Type 0) → ℕ → Type 0
-Reports Holds Sent status = (e : Refusal) × (status ≡ status_of e) × Holds e × Sent (refusal_line e)
+-- the status is that of a refusal for which this holds, and whose line was sent, for a job whose
+-- type has this name
+abbrev pub Reports : List ℕ → (Refusal → Type 0) → (List ℕ → Type 0) → ℕ → Type 0
+Reports name Holds Sent status =
+    (e : Refusal) × (status ≡ status_of e) × Holds e × Sent (refusal_line name e)

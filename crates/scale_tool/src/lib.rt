@@ -3,12 +3,19 @@
 #![tactic(auto)]
 
 mod engine;
+mod form;
 mod gathering;
 mod lines;
+mod named;
+mod opaque;
+mod parts;
 mod refusal;
 mod registry;
+mod text;
 mod value;
 
-pub use command_line::{Device, Job, JobFault, explain, job, unopened};
+pub use command_line::{
+    DecodeJob, Device, Job, JobFault, ValueSource, Wanted, explain, job, unopened,
+};
 pub use engine::run;
 pub use hex_text::laws;

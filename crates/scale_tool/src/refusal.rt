@@ -2,8 +2,8 @@
 //! and the exit status.
 
 ghost use Rattle.std.specs.Prelude.{◌≡◌, IfNone, IfSome};
-ghost use Rattle.scale_tool.specs.Refused.{IsRejected, refusal_of_hex, refusal_of_registry};
-ghost use Rattle.scale_tool.specs.Refused.{status_of};
+ghost use Rattle.scale_tool.specs.Refused.{IsRejected, refusal_of_hex, refusal_of_metadata};
+ghost use Rattle.scale_tool.specs.Refused.{refusal_of_registry, status_of};
 ghost use Rattle.scale_tool.specs.Reported.{refusal_line};
 ghost use Rattle.scale_tool.specs.declared.refusal.Refusal.TheVariants.{Memory};
 
@@ -11,7 +11,7 @@ use command_line::Device;
 use decode_core::DecodeFault;
 use hex_text::{HexFault, HexRefusal};
 use registry_core::RegistryFault;
-use scale_calls::{RegistryRefusal, UnknownReference};
+use scale_calls::{MetadataRefusal, RegistryRefusal, UnknownReference};
 use std::alloc::AllocError;
 
 /// Why there is no answer.
@@ -23,8 +23,16 @@ pub(crate) enum Refusal {
     TrailingRegistry(u64),
     /// A type refers to one that the registry lacks.
     Check(UnknownReference),
+    /// The first fault of what follows the registry in metadata.
+    Rest(DecodeFault),
+    /// What follows the registry refers, at a place, to a type that the registry lacks.
+    UnknownReference { ty: u32, at: u64 },
     /// The registry has no type at the position.
     UnknownType(u32),
+    /// The metadata has no such name.
+    UnknownName,
+    /// The metadata has no bytes for the name.
+    NoBytes,
     /// The value's file should hold digits, and does not.
     Hex(HexFault),
     /// The first fault of the value's bytes.
@@ -53,9 +61,10 @@ impl Refusal {
         }
     }
 
-    /// Returns the line of a device or of a failed allocation, which needs no memory.
-    pub(crate) fn fixed_line(self) -> Option<&'static str>
-        ensures line { IfSome result (λ line. line.now ≡ refusal_line self) }
+    /// Returns the line of a device or of a failed allocation, which needs no memory. It is the
+    /// same for every name.
+    pub(crate) fn fixed_line(self, name: &str) -> Option<&'static str>
+        ensures line { IfSome result (λ line. line.now ≡ refusal_line name.now self) }
         ensures none { IfNone result (IsRejected self) }
     {
         match self {
@@ -77,6 +86,21 @@ impl From<RegistryRefusal> for Refusal {
             RegistryRefusal::TrailingBytes(at) => Refusal::TrailingRegistry(at),
             RegistryRefusal::Check(unknown) => Refusal::Check(unknown),
             RegistryRefusal::Memory => Refusal::Memory,
+        }
+    }
+}
+
+impl From<MetadataRefusal> for Refusal {
+    ghost from_gives = { λ f r. r ≡ refusal_of_metadata f };
+
+    fn from(refusal: MetadataRefusal) -> Refusal {
+        match refusal {
+            MetadataRefusal::Registry(fault) => Refusal::Registry(fault),
+            MetadataRefusal::Rest(fault) => Refusal::Rest(fault),
+            MetadataRefusal::TrailingBytes(at) => Refusal::TrailingRegistry(at),
+            MetadataRefusal::UnknownReference { ty, at } => Refusal::UnknownReference { ty, at },
+            MetadataRefusal::Check(unknown) => Refusal::Check(unknown),
+            MetadataRefusal::Memory => Refusal::Memory,
         }
     }
 }

@@ -6,3 +6,4 @@ pub mod calls;
 pub mod jobs;
 pub mod lines;
 pub mod ran;
+pub mod words;

@@ -7,6 +7,7 @@ mod builder;
 mod columns;
 mod commands;
 mod compacts;
+mod metadata;
 mod registries;
 mod shown;
 mod steps;
@@ -20,27 +21,33 @@ use registries::Registries;
 use std::process::ExitCode;
 use std::rt::Files;
 use std::{fs, io};
-use table::Table;
+use table::{Named, Table};
 
-const TABLES: [Table; 7] = [
+const TABLES: [Table; 9] = [
     Table::Compacts,
     Table::Registries,
     Table::Types,
     Table::Values,
     Table::Bits,
     Table::Command,
+    Table::Metadata,
+    Table::Chain,
     Table::Builder,
 ];
 
 /// Checks the rows of every table. Returns how many are answered wrongly.
 fn check_tables<R: Files + Print + AllocGlobal>(rt: &R) -> io::Result<u64> {
     let registries_text = fs::read_to_string(rt, "registries.tsv")?;
-    let registries = Registries::new(rt.alloc(), &registries_text)?;
+    let metadata_text = fs::read_to_string(rt, "metadata.tsv")?;
+    let named = Named {
+        registries: Registries::new(rt.alloc(), &registries_text, 2)?,
+        metadata: Registries::new(rt.alloc(), &metadata_text, 1)?,
+    };
     let mut wrong = 0u64;
     for table in TABLES {
         let file = format!(in rt.alloc(); "{}.tsv", table.name())?;
         let text = fs::read_to_string(rt, file.as_str())?;
-        let tally = table::check_table(rt, table, &registries, &text)?;
+        let tally = table::check_table(rt, table, &named, &text)?;
         println!(rt;
             "{}: {} rows in {} ways, {} wrong",
             table.name(),

@@ -170,21 +170,30 @@ struct Named<'a> {
 pub(crate) struct Registries<'a>(Vec<Named<'a>>);
 
 impl<'a> Registries<'a> {
-    /// Reads the names and the digits of a table's rows.
-    pub(crate) fn new(alloc: Global, text: &'a str) -> Result<Registries<'a>, AllocError> {
+    /// Reads the names and the digits of a table's rows. These stand in this column.
+    pub(crate) fn new(
+        alloc: Global,
+        text: &'a str,
+        column: usize,
+    ) -> Result<Registries<'a>, AllocError> {
         let mut named = Vec::new(alloc);
         'lines: for line in text.split('\n') {
-            if let Some((name, rest)) = line.split_once('\t') {
-                let digits = rest.split('\t').nth(1).unwrap_or("");
+            if let Some((name, _)) = line.split_once('\t') {
+                let digits = line.split('\t').nth(column).unwrap_or("");
                 named.push(Named { name, digits })?;
             }
         }
         Ok(Registries(named))
     }
 
-    /// Returns the bytes of the registry that the second column of a row names or spells.
-    pub(crate) fn bytes_of(&self, alloc: Global, columns: &[&str]) -> Result<Vec<u8>, Wrong> {
-        let name = columns.get(1).copied().unwrap_or("");
+    /// Returns the bytes of the registry that a column of a row names or spells.
+    pub(crate) fn bytes_of(
+        &self,
+        alloc: Global,
+        columns: &[&str],
+        column: usize,
+    ) -> Result<Vec<u8>, Wrong> {
+        let name = columns.get(column).copied().unwrap_or("");
         'registries: for registry in &self.0 {
             if registry.name == name {
                 return bytes_of(alloc, registry.digits);
@@ -200,7 +209,7 @@ impl<'a> Registries<'a> {
         bits: Bits,
         columns: &[&str],
     ) -> Result<Checked, Wrong> {
-        let bytes = self.bytes_of(alloc, columns)?;
+        let bytes = self.bytes_of(alloc, columns, 1)?;
         let checked = match bits {
             Bits::Allowed => building::checked_with_bits(alloc, &bytes),
             Bits::Refused => building::checked(alloc, &bytes),

@@ -388,7 +388,7 @@ pub(crate) fn check_row(
     columns: &[&str],
 ) -> Result<u64, Wrong> {
     let row = row_of(alloc, bits, columns)?;
-    let registry = registries.bytes_of(alloc, columns)?;
+    let registry = registries.bytes_of(alloc, columns, 1)?;
     let checked = registries.checked(alloc, bits, columns)?;
     check_ways(alloc, &checked, &row, &registry)
 }

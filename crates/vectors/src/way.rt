@@ -8,6 +8,7 @@ pub(crate) enum Way {
     PutCompact,
     WriteCompact,
     ReadRegistry,
+    OpenMetadata,
     WriteRegistry,
     /// A shorter front of this length.
     Front(usize),

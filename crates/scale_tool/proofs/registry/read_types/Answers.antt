@@ -10,9 +10,3 @@ returns-in_err-checked_registry-in-Ok-clause-faults g c =
     c.new-bytes.result.items c.gather_all.new.out.items c.as_slice.result.now _
     c.new-bytes.ensures.items c.in-Ok.ensures.ok c.as_slice.ensures.value
     c.in_err-checked_registry-in-Ok.ensures.refuses))
-
-pub returns-in-Err-Device-clause-faults : goal.returns-in-Err-Device-clause-faults
-returns-in-Err-Device-clause-faults g c = λ j v is. tt
-
-pub returns-clause-faults : goal.returns-clause-faults
-returns-clause-faults g c = λ j v is. tt

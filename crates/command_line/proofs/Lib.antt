@@ -1,3 +1,0 @@
-pub mod Locals
-pub mod Entered
-pub mod Unnamed

@@ -1,0 +1,32 @@
+//! Metadata with names: how many types and names it has, or why it has none.
+
+use crate::columns::bytes_of;
+use crate::commands::check_refused;
+use crate::way::Way;
+use crate::wrong::{Wrong, check_text};
+use chain_core::rest_types;
+use scale_calls::{open_metadata, push_name_lines};
+use std::alloc::Global;
+
+/// Checks one row: the numbers of own types, of all types and of names, or the line of a refusal.
+/// Returns the number of ways in which it was checked.
+pub(crate) fn check_row(alloc: Global, columns: &[&str]) -> Result<u64, Wrong> {
+    let [_, bytes, answer] = columns else {
+        return Err(Wrong::Column("one of three"));
+    };
+    let bytes = bytes_of(alloc, bytes)?;
+    if answer.starts_with("registry: ") || answer.starts_with("check: ") {
+        return check_refused(alloc, bytes, answer);
+    }
+    let types = rest_types(alloc)?;
+    let Ok(metadata) = open_metadata(alloc, &types, false, &bytes) else {
+        return Err(Wrong::Call("open_metadata"));
+    };
+    let mut lines = String::new(alloc);
+    push_name_lines(alloc, &mut lines, &metadata)?;
+    let all = metadata.checked.registry().types().len();
+    let names = lines.as_str().lines().count();
+    let found = format!(in alloc; "{} {all} {names}", metadata.own)?;
+    check_text(alloc, Way::OpenMetadata, answer, &found)?;
+    Ok(1)
+}
