@@ -1,7 +1,7 @@
 //! The command: each command line, run over memory.
 
 use crate::columns::{bytes_of, parsed};
-use crate::registries::Bits;
+use crate::registries::{Bits, Registries};
 use crate::values::Row;
 use crate::way::Way;
 use crate::wrong::{Wrong, check_bytes, check_same, check_text};
@@ -68,18 +68,18 @@ fn check_columns(
     check_bytes(alloc, way, unescaped(alloc, err)?.as_bytes(), &ran.err)
 }
 
-/// Checks the words of a row on these bytes of a registry. Returns the number of ways in which they
-/// were checked.
+/// Checks the words of a row, whose third column names a row of a table or spells bytes. Returns
+/// the number of ways in which they were checked.
 pub(crate) fn check_words(
     alloc: Global,
-    registry: Vec<u8>,
+    named: &Registries<'_>,
     columns: &[&str],
 ) -> Result<u64, Wrong> {
     let [_, line, _, value, status, out, err] = columns else {
         return Err(Wrong::Column("one of seven"));
     };
     let files = Files {
-        registry,
+        registry: named.bytes_of(alloc, columns, 2)?,
         value: bytes_of(alloc, value)?,
     };
     let words = words_of(alloc, line)?;
@@ -89,14 +89,4 @@ pub(crate) fn check_words(
         check_columns(alloc, Way::Command(step), (status, out, err), &ran)?;
     }
     Ok(2)
-}
-
-/// Checks the line that a command writes on standard error for metadata that has no names.
-pub(crate) fn check_refused(alloc: Global, metadata: Vec<u8>, line: &str) -> Result<u64, Wrong> {
-    let err = format!(in alloc; "scaleview: {line}\\n")?;
-    check_words(
-        alloc,
-        metadata,
-        &["", "names r", "", "-", "1", "-", err.as_str()],
-    )
 }

@@ -21,7 +21,7 @@ use registries::Registries;
 use std::process::ExitCode;
 use std::rt::Files;
 use std::{fs, io};
-use table::{Named, Table};
+use table::Table;
 
 const TABLES: [Table; 9] = [
     Table::Compacts,
@@ -35,19 +35,20 @@ const TABLES: [Table; 9] = [
     Table::Builder,
 ];
 
-/// Checks the rows of every table. Returns how many are answered wrongly.
-fn check_tables<R: Files + Print + AllocGlobal>(rt: &R) -> io::Result<u64> {
-    let registries_text = fs::read_to_string(rt, "registries.tsv")?;
-    let metadata_text = fs::read_to_string(rt, "metadata.tsv")?;
-    let named = Named {
-        registries: Registries::new(rt.alloc(), &registries_text, 2)?,
-        metadata: Registries::new(rt.alloc(), &metadata_text, 1)?,
-    };
+/// Checks the rows of every table, by the texts of the tables whose rows others name. Returns how
+/// many are answered wrongly.
+fn check_by<R: Files + Print + AllocGlobal>(
+    rt: &R,
+    registries: &str,
+    metadata: &str,
+) -> io::Result<u64> {
+    let registries = Registries::new(rt.alloc(), registries, 2)?;
+    let metadata = Registries::new(rt.alloc(), metadata, 1)?;
     let mut wrong = 0u64;
     for table in TABLES {
         let file = format!(in rt.alloc(); "{}.tsv", table.name())?;
         let text = fs::read_to_string(rt, file.as_str())?;
-        let tally = table::check_table(rt, table, &named, &text)?;
+        let tally = table::check_table(rt, table, &registries, &metadata, &text)?;
         println!(rt;
             "{}: {} rows in {} ways, {} wrong",
             table.name(),
@@ -58,6 +59,13 @@ fn check_tables<R: Files + Print + AllocGlobal>(rt: &R) -> io::Result<u64> {
         wrong = wrong.saturating_add(tally.wrong);
     }
     Ok(wrong)
+}
+
+/// Checks the rows of every table. Returns how many are answered wrongly.
+fn check_tables<R: Files + Print + AllocGlobal>(rt: &R) -> io::Result<u64> {
+    let registries = fs::read_to_string(rt, "registries.tsv")?;
+    let metadata = fs::read_to_string(rt, "metadata.tsv")?;
+    check_by(rt, registries.as_str(), metadata.as_str())
 }
 
 fn main(rt: HostRuntime) -> ExitCode {

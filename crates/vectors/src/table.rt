@@ -2,7 +2,7 @@
 
 use crate::registries::{Bits, Registries};
 use crate::wrong::Wrong;
-use crate::{builder, commands, compacts, metadata, registries, types, values};
+use crate::{builder, commands, compacts, registries, types, values};
 use std::alloc::Global;
 use std::io;
 
@@ -18,13 +18,6 @@ pub(crate) enum Table {
     Metadata,
     Chain,
     Builder,
-}
-
-/// The tables whose rows others name.
-#[derive(Drop)]
-pub(crate) struct Named<'a> {
-    pub(crate) registries: Registries<'a>,
-    pub(crate) metadata: Registries<'a>,
 }
 
 impl Table {
@@ -44,26 +37,22 @@ impl Table {
     }
 
     /// Checks one row. Returns the number of ways in which it was checked.
-    fn check_row(self, alloc: Global, named: &Named<'_>, columns: &[&str]) -> Result<u64, Wrong> {
-        let registries = &named.registries;
+    fn check_row(
+        self,
+        alloc: Global,
+        registries: &Registries<'_>,
+        metadata: &Registries<'_>,
+        columns: &[&str],
+    ) -> Result<u64, Wrong> {
         match self {
             Table::Compacts => compacts::check_row(alloc, columns),
             Table::Registries => registries::check_row(alloc, columns),
             Table::Types => types::check_row(alloc, registries, columns),
             Table::Values => values::check_row(alloc, registries, Bits::Refused, columns),
             Table::Bits => values::check_row(alloc, registries, Bits::Allowed, columns),
-            Table::Command => {
-                let registry = crate::columns::bytes_of(
-                    alloc,
-                    columns.get(2).copied().unwrap_or("-"),
-                )?;
-                commands::check_words(alloc, registry, columns)
-            }
-            Table::Metadata => metadata::check_row(alloc, columns),
-            Table::Chain => {
-                let metadata = named.metadata.bytes_of(alloc, columns, 2)?;
-                commands::check_words(alloc, metadata, columns)
-            }
+            Table::Command => commands::check_words(alloc, registries, columns),
+            Table::Metadata => crate::metadata::check_row(alloc, registries, columns),
+            Table::Chain => commands::check_words(alloc, metadata, columns),
             Table::Builder => builder::check_row(alloc, registries, columns),
         }
     }
@@ -81,13 +70,14 @@ pub(crate) struct Tally {
 fn check_line<R: Print + AllocGlobal>(
     rt: &R,
     table: Table,
-    named: &Named<'_>,
+    registries: &Registries<'_>,
+    metadata: &Registries<'_>,
     line: &str,
     tally: &mut Tally,
 ) -> io::Result<()> {
     let columns: Vec<&str> = line.split('\t').collect(rt.alloc())?;
     tally.rows = tally.rows.saturating_add(1);
-    match table.check_row(rt.alloc(), named, &columns) {
+    match table.check_row(rt.alloc(), registries, metadata, &columns) {
         Ok(ways) => {
             tally.ways = tally.ways.saturating_add(ways);
             Ok(())
@@ -104,13 +94,14 @@ fn check_line<R: Print + AllocGlobal>(
 pub(crate) fn check_table<R: Print + AllocGlobal>(
     rt: &R,
     table: Table,
-    named: &Named<'_>,
+    registries: &Registries<'_>,
+    metadata: &Registries<'_>,
     text: &str,
 ) -> io::Result<Tally> {
     let mut tally = Tally::default();
     'lines: for line in text.split('\n') {
         if !line.is_empty() && !line.starts_with('#') {
-            check_line(rt, table, named, line, &mut tally)?;
+            check_line(rt, table, registries, metadata, line, &mut tally)?;
         }
     }
     Ok(tally)
