@@ -1,4 +1,4 @@
--- For each module, where its proofs begin: Names for finding, SyntheticCounts for synthetic.
-pub mod Names
+-- For each module, where its proofs begin: NameTexts for finding and names, SyntheticCounts for synthetic.
+pub mod NameTexts
 pub mod OwnReferences
 pub mod SyntheticCounts

@@ -1,5 +1,5 @@
 pub mod Extrinsics
-pub mod Finding
+pub mod Names
 pub mod Keys
 pub mod Listed
 pub mod Parts

@@ -1,5 +1,6 @@
 -- Things that metadata names.
-use Rattle.std.specs.Prelude.{◌≡◌, ℕ, List, [], ◌∷◌, ◌++◌, codes, map, Option, option_map}
+use Rattle.std.specs.Prelude.{◌≡◌, ℕ, List, [], ◌∷◌, ◌++◌, codes, map, Option, option_map, string_bytes}
+use Rattle.std.specs.Rc.{rc_str_bytes}
 use Rattle.node_core.specs.Shown.{Seen}
 use Rattle.chain_core.specs.declared.extrinsics.ExtrinsicTypes.{ExtrinsicTypes}
 use Rattle.chain_core.specs.declared.keys.KeyPart.{KeyPart}
@@ -44,8 +45,8 @@ dotted a b = a ++ 46 ∷ b
 
 abbrev pub path_text : Path → List ℕ
 path_text path.Empty = []
-path_text (path.One a) = a.now
-path_text (path.Two a b) = dotted a.now b.now
+path_text (path.One a) = string_bytes a
+path_text (path.Two a b) = dotted (rc_str_bytes a) (string_bytes b)
 
 abbrev pub name_text : Section → Path → List ℕ
 name_text s p = word_of s ++ path_text p
@@ -60,7 +61,7 @@ abbrev pub named : Thing → Named
 named t = record {
   name = name_text t.section t.path;
   stands = stands_for t.meaning;
-  bytes = option_map (λ s. s.now) t.bytes;
+  bytes = option_map (λ v. v.items) t.bytes;
 }
 
 abbrev pub all_named : List Thing → List Named

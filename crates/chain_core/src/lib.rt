@@ -2,10 +2,12 @@
 //! types that stand for extrinsics, storage keys and the parameters of methods.
 #![tactic(auto)]
 
+mod distinct;
 mod extrinsics;
 mod finding;
 mod keys;
 mod listing;
+mod names;
 mod needs;
 mod own_references;
 mod parts;
@@ -15,9 +17,10 @@ mod thing;
 mod unknown;
 
 pub use extrinsics::ExtrinsicTypes;
-pub use finding::{Found, after_front, find, place, push_name};
+pub use finding::after_front;
 pub use keys::{HashLength, KeyPart};
 pub use listing::list_things;
+pub use names::{NamedType, Names};
 pub use own_references::unknown_in_types;
 pub use rest::{REFERENCE, rest_root, rest_types};
 pub use synthetic::synthetic_types;

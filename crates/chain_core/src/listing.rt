@@ -1,12 +1,13 @@
 //! All things that metadata names, in order.
 
 ghost use Rattle.std.specs.Prelude.{◌≡◌, IfOk, OnOk, flat_map, option_and_then, option_map};
+ghost use Rattle.std.specs.Rc.{rc_str_bytes};
 ghost use Rattle.chain_core.specs.Listed.{api_things, children_in, constant_thing, custom_thing};
 ghost use Rattle.chain_core.specs.Listed.{default_if, entry_things, extrinsic_thing, key_thing};
 ghost use Rattle.chain_core.specs.Listed.{method_things, outer_things, own_thing, pallet_things};
 ghost use Rattle.chain_core.specs.Listed.{params_thing, things};
 ghost use Rattle.chain_core.specs.Parts.{child, inner};
-ghost use Rattle.chain_core.specs.Things.{Adds, all_named, name_text, path_text};
+ghost use Rattle.chain_core.specs.Things.{Adds, all_named, dotted, name_text, path_text};
 
 use crate::extrinsics::{ExtrinsicTypes, call_type, extrinsic_types, part_at};
 use crate::keys::{KeyPart, entry_value, key_parts};
@@ -15,17 +16,43 @@ use crate::thing::{Meaning, Path, Section, Thing};
 use node_core::{NodeRef, What};
 use registry_core::{TypeInfo, Version};
 use std::alloc::{AllocError, Global};
+use std::rc::RcStr;
+
+/// Returns the path of a name.
+fn path_of(alloc: Global, name: &str) -> Result<Path, AllocError>
+    ensures { IfOk result (λ path. path_text path ≡ name.now) }
+{
+    Ok(Path::One(String::from_str(alloc, name)?))
+}
+
+/// Returns the path of a part of a pallet or of an api.
+fn path_in(alloc: Global, outer: &RcStr, inner: &str) -> Result<Path, AllocError>
+    ensures { IfOk result (λ path. path_text path ≡ dotted (rc_str_bytes outer.now) inner.now) }
+{
+    Ok(Path::Two(outer.clone()?, String::from_str(alloc, inner)?))
+}
+
+/// Returns a copy of the bytes.
+fn copied(alloc: Global, bytes: Option<&[u8]>) -> Result<Option<Vec<u8>>, AllocError>
+    ensures { IfOk result (λ copy.
+        option_map (λ v. v.items) copy ≡ option_map (λ s. s.now) bytes.entry) }
+{
+    match bytes {
+        Some(bytes) => Ok(Some(Vec::from_slice(alloc, bytes)?)),
+        None => Ok(None),
+    }
+}
 
 /// Appends a thing of a type of the registry, if its type is known.
 fn push_own<'v, 'r>(
     things: &mut Vec<Thing<'v, 'r>>,
     section: Section,
-    path: Path<'v>,
+    path: Path,
     reference: Option<u32>,
-    bytes: Option<&'v [u8]>,
+    bytes: Option<Vec<u8>>,
 ) -> Result<(), AllocError>
     ensures { OnOk result (Adds things.old.items things.new.items (own_thing
-        (name_text section path.entry) reference (option_map (λ s. s.now) bytes.entry))) }
+        (name_text section path) reference (option_map (λ v. v.items) bytes))) }
 {
     if let Some(id) = reference {
         things.push(Thing {
@@ -103,11 +130,11 @@ fn default_of<'v>(entry: &NodeRef<'v, '_>) -> Option<&'v [u8]>
 /// Appends the keys of a storage entry, if their parts are known.
 fn push_key<'v, 'r>(
     things: &mut Vec<Thing<'v, 'r>>,
-    path: Path<'v>,
+    path: Path,
     parts: Option<Vec<KeyPart>>,
 ) -> Result<(), AllocError>
     ensures { OnOk result (Adds things.old.items things.new.items
-        (key_thing (path_text path.entry) (option_map (λ v. v.items) parts))) }
+        (key_thing (path_text path) (option_map (λ v. v.items) parts))) }
 {
     if let Some(parts) = parts {
         things.push(Thing {
@@ -124,38 +151,38 @@ fn push_key<'v, 'r>(
 fn push_entry<'v, 'r>(
     alloc: Global,
     own: &[TypeInfo],
-    pallet: &'v str,
+    pallet: &RcStr,
     entry: &NodeRef<'v, 'r>,
     things: &mut Vec<Thing<'v, 'r>>,
 ) -> Result<(), AllocError>
     ensures { OnOk result (Adds things.old.items things.new.items
-        (entry_things own.now pallet.now entry.now)) }
+        (entry_things own.now (rc_str_bytes pallet.now) entry.now)) }
 {
     let Some(ty) = child(entry, 2) else {
         return Ok(());
     };
-    let path = Path::Two(pallet, text_at(entry, 0));
+    let name = text_at(entry, 0);
     push_own(
         things,
         Section::Storage,
-        path,
+        path_in(alloc, pallet, name)?,
         entry_value(&ty),
-        default_of(entry),
+        copied(alloc, default_of(entry))?,
     )?;
     let parts = key_parts(alloc, own, &ty)?;
-    push_key(things, path, parts)
+    push_key(things, path_in(alloc, pallet, name)?, parts)
 }
 
 /// Appends storage entries and their keys.
 fn push_entries<'v, 'r>(
     alloc: Global,
     own: &[TypeInfo],
-    pallet: &'v str,
+    pallet: &RcStr,
     list: Option<NodeRef<'v, 'r>>,
     things: &mut Vec<Thing<'v, 'r>>,
 ) -> Result<(), AllocError>
     ensures { OnOk result (Adds things.old.items things.new.items
-        (flat_map (entry_things own.now pallet.now) (children_in list.entry))) }
+        (flat_map (entry_things own.now (rc_str_bytes pallet.now)) (children_in list.entry))) }
 {
     let Some(list) = list else {
         return Ok(());
@@ -168,26 +195,22 @@ fn push_entries<'v, 'r>(
 
 /// Appends constants.
 fn push_constants<'v, 'r>(
-    pallet: &'v str,
+    alloc: Global,
+    pallet: &RcStr,
     list: Option<NodeRef<'v, 'r>>,
     things: &mut Vec<Thing<'v, 'r>>,
 ) -> Result<(), AllocError>
     ensures { OnOk result (Adds things.old.items things.new.items
-        (flat_map (constant_thing pallet.now) (children_in list.entry))) }
+        (flat_map (constant_thing (rc_str_bytes pallet.now)) (children_in list.entry))) }
 {
     let Some(list) = list else {
         return Ok(());
     };
     'constants: for constant in list.children() {
-        let path = Path::Two(pallet, text_at(&constant, 0));
+        let path = path_in(alloc, pallet, text_at(&constant, 0))?;
         let reference = reference_at(&constant, 1);
-        push_own(
-            things,
-            Section::Constant,
-            path,
-            reference,
-            bytes_at(&constant, 2),
-        )?;
+        let bytes = copied(alloc, bytes_at(&constant, 2))?;
+        push_own(things, Section::Constant, path, reference, bytes)?;
     }
     Ok(())
 }
@@ -213,26 +236,27 @@ fn push_pallet<'v, 'r>(
     push_own(
         things,
         Section::Calls,
-        Path::One(name),
+        path_of(alloc, name)?,
         inner_reference(pallet, 2),
         None,
     )?;
     push_own(
         things,
         Section::Events,
-        Path::One(name),
+        path_of(alloc, name)?,
         inner_reference(pallet, 3),
         None,
     )?;
     push_own(
         things,
         Section::Errors,
-        Path::One(name),
+        path_of(alloc, name)?,
         inner_reference(pallet, 5),
         None,
     )?;
-    push_entries(alloc, own, name, entries_of(pallet), things)?;
-    push_constants(name, child(pallet, 4), things)
+    let shared = RcStr::from_str(alloc, name)?;
+    push_entries(alloc, own, &shared, entries_of(pallet), things)?;
+    push_constants(alloc, &shared, child(pallet, 4), things)
 }
 
 /// Appends pallets.
@@ -257,11 +281,11 @@ fn push_pallets<'v, 'r>(
 /// Appends the parameters of a method, if there is a list of them.
 fn push_params<'v, 'r>(
     things: &mut Vec<Thing<'v, 'r>>,
-    path: Path<'v>,
+    path: Path,
     inputs: Option<NodeRef<'v, 'r>>,
 ) -> Result<(), AllocError>
     ensures { OnOk result (Adds things.old.items things.new.items
-        (params_thing (path_text path.entry) inputs.entry)) }
+        (params_thing (path_text path) inputs.entry)) }
 {
     if let Some(inputs) = inputs {
         things.push(Thing {
@@ -276,37 +300,47 @@ fn push_params<'v, 'r>(
 
 /// Appends the result and the parameters of a method.
 fn push_method<'v, 'r>(
-    api: &'v str,
+    alloc: Global,
+    api: &RcStr,
     method: &NodeRef<'v, 'r>,
     things: &mut Vec<Thing<'v, 'r>>,
 ) -> Result<(), AllocError>
     ensures { OnOk result (Adds things.old.items things.new.items
-        (method_things api.now method.now)) }
+        (method_things (rc_str_bytes api.now) method.now)) }
 {
-    let path = Path::Two(api, text_at(method, 0));
-    push_own(things, Section::Result, path, reference_at(method, 2), None)?;
-    push_params(things, path, child(method, 1))
+    let name = text_at(method, 0);
+    let result = reference_at(method, 2);
+    push_own(
+        things,
+        Section::Result,
+        path_in(alloc, api, name)?,
+        result,
+        None,
+    )?;
+    push_params(things, path_in(alloc, api, name)?, child(method, 1))
 }
 
 /// Appends the results and the parameters of the methods of an api.
 fn push_api<'v, 'r>(
+    alloc: Global,
     api: &NodeRef<'v, 'r>,
     things: &mut Vec<Thing<'v, 'r>>,
 ) -> Result<(), AllocError>
     ensures { OnOk result (Adds things.old.items things.new.items (api_things api.now)) }
 {
-    let name = text_at(api, 0);
+    let name = RcStr::from_str(alloc, text_at(api, 0))?;
     let Some(methods) = child(api, 1) else {
         return Ok(());
     };
     'methods: for method in methods.children() {
-        push_method(name, &method, things)?;
+        push_method(alloc, &name, &method, things)?;
     }
     Ok(())
 }
 
 /// Appends apis.
 fn push_apis<'v, 'r>(
+    alloc: Global,
     list: Option<NodeRef<'v, 'r>>,
     things: &mut Vec<Thing<'v, 'r>>,
 ) -> Result<(), AllocError>
@@ -317,13 +351,14 @@ fn push_apis<'v, 'r>(
         return Ok(());
     };
     'apis: for api in list.children() {
-        push_api(&api, things)?;
+        push_api(alloc, &api, things)?;
     }
     Ok(())
 }
 
 /// Appends custom values.
 fn push_customs<'v, 'r>(
+    alloc: Global,
     list: Option<NodeRef<'v, 'r>>,
     things: &mut Vec<Thing<'v, 'r>>,
 ) -> Result<(), AllocError>
@@ -334,13 +369,14 @@ fn push_customs<'v, 'r>(
         return Ok(());
     };
     'values: for value in list.children() {
-        let path = Path::One(text_at(&value, 0));
+        let path = path_of(alloc, text_at(&value, 0))?;
+        let bytes = copied(alloc, bytes_at(&value, 2))?;
         push_own(
             things,
             Section::Custom,
             path,
             reference_at(&value, 1),
-            bytes_at(&value, 2),
+            bytes,
         )?;
     }
     Ok(())
@@ -363,7 +399,7 @@ pub fn list_things<'v, 'r>(
     let mut things = Vec::new(alloc);
     push_outer(version, own, rest, &mut things)?;
     push_pallets(alloc, own, child(rest, 0), &mut things)?;
-    push_apis(child(rest, 3), &mut things)?;
-    push_customs(child(rest, 5), &mut things)?;
+    push_apis(alloc, child(rest, 3), &mut things)?;
+    push_customs(alloc, child(rest, 5), &mut things)?;
     Ok(things)
 }

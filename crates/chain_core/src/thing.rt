@@ -6,6 +6,7 @@ ghost use Rattle.chain_core.specs.Things.{word_of};
 use crate::extrinsics::ExtrinsicTypes;
 use crate::keys::KeyPart;
 use node_core::NodeRef;
+use std::rc::RcStr;
 
 /// What a name begins with.
 #[derive(Clone, Copy, Debug, PartialEq, Eq)]
@@ -49,13 +50,13 @@ impl Section {
 }
 
 /// What follows the word of a name.
-#[derive(Clone, Copy, Debug)]
-pub enum Path<'v> {
+#[derive(Drop)]
+pub enum Path {
     Empty,
     /// A pallet, or a custom value.
-    One(&'v str),
-    /// A part of a pallet or of an api, with a dot between.
-    Two(&'v str, &'v str),
+    One(String),
+    /// A pallet or an api, and a part of it, with a dot between. All its parts share its name.
+    Two(RcStr, String),
 }
 
 /// What a name stands for.
@@ -75,8 +76,8 @@ pub enum Meaning<'v, 'r> {
 #[derive(Drop)]
 pub struct Thing<'v, 'r> {
     pub section: Section,
-    pub path: Path<'v>,
+    pub path: Path,
     pub meaning: Meaning<'v, 'r>,
     /// The bytes of its value, if the metadata has them.
-    pub bytes: Option<&'v [u8]>,
+    pub bytes: Option<Vec<u8>>,
 }

@@ -1,6 +1,7 @@
 pub mod Describing
 pub mod Lines
 pub mod Named
+pub mod Opaque
 pub mod Opened
 pub mod Refused
 pub mod Values

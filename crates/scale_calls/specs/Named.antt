@@ -1,5 +1,5 @@
 -- Metadata that is opened with its names.
-use Rattle.std.specs.Prelude.{◌≡◌, ◌+◌, ◌-◌, ◌^◌, min, ℕ, List, ◌++◌, length, take, Option, Some}
+use Rattle.std.specs.Prelude.{◌≡◌, ◌+◌, ◌-◌, ◌^◌, min, ℕ, List, ◌++◌, length, Option, Some}
 use Rattle.std.specs.Prelude.{None, Ok, Err, Bool, true, ◌⊎◌}
 use Rattle.scale_core.specs.Read.{place}
 use Rattle.types_core.specs.declared.type_info.TypeInfo.{TypeInfo}
@@ -15,9 +15,9 @@ use Rattle.decode_core.specs.Decoding.{FinishesDecoder}
 use Rattle.decode_core.specs.Streaming.{Trails}
 use Rattle.decode_core.specs.declared.fault.DecodeFault.{DecodeFault}
 use Rattle.chain_core.specs.Listed.{things}
+use Rattle.chain_core.specs.Names.{Entry, entries_of, placed}
 use Rattle.chain_core.specs.RestTypes.{rest_root, rest_types}
 use Rattle.chain_core.specs.Synthetic.{synthetic}
-use Rattle.chain_core.specs.Things.{Named}
 use Rattle.chain_core.specs.Unknown.{unknown_in}
 use Rattle.scale_calls.specs.Opened.{IsFirstFault, types_by}
 use Rattle.scale_calls.specs.Values.{value_in}
@@ -42,6 +42,17 @@ pub record Metadata : Type 0 where
 -- the own types, and the synthetic ones after them
 abbrev pub all_types : Metadata → List TypeInfo
 all_types m = m.own ++ synthetic m.own (things m.version m.own m.rest)
+
+-- all names, each with the position of its type
+abbrev pub all_names : Metadata → List Entry
+all_names m = placed (things m.version m.own m.rest) (length m.own)
+
+-- this is opened of the metadata: its version, all types, and the names
+pub record Shows (m : NamedMetadata) (x : Metadata) : Type 0 where
+  pub version : m.version ≡ x.version
+  pub own : m.own ≡ length x.own
+  pub types : m.checked.types ≡ all_types x
+  pub names : entries_of m.names ≡ all_names x
 
 -- every reference is a position of the own types: those of the rest, and those of these types; so
 -- is every reference of the synthetic types, of all
@@ -101,11 +112,3 @@ metadata_refusal_by _ f = refusal.Registry f
 -- the refusal of a registry's fault; an allocation failure is no fault of the bytes
 abbrev pub metadata_refusal : RegistryFault → MetadataRefusal
 metadata_refusal f = metadata_refusal_by f.reason f
-
--- the registry's own types: the first ones, as many as it has
-abbrev pub own_types : NamedMetadata → List TypeInfo
-own_types m = take (min (length m.checked.types) m.own) m.checked.types
-
--- all things that metadata names
-abbrev pub named_things : NamedMetadata → List Named
-named_things m = things m.version (own_types m) m.rest

@@ -42,3 +42,9 @@ abbrev pub opening_refusal : OpenFault → ValueRefusal
 opening_refusal opening.UnknownType = value.UnknownType
 opening_refusal opening.LimitOutOfRange = value.LimitOutOfRange
 opening_refusal opening.OutOfMemory = value.Memory
+
+-- the refusal is about the bytes, and not about the type or the limits
+abbrev pub IsOfBytes : ValueRefusal → Type 0
+IsOfBytes value.UnknownType = ⊥
+IsOfBytes value.LimitOutOfRange = ⊥
+IsOfBytes _ = Unit {0}

@@ -6,6 +6,7 @@ mod describing;
 mod lines;
 mod metadata;
 mod names;
+mod opaque;
 mod refusal;
 mod registry;
 mod value;
@@ -15,7 +16,8 @@ pub use describing::{
 };
 pub use lines::{push_type_lines, type_line, version_line};
 pub use metadata::{MetadataRefusal, NamedMetadata, open_metadata};
-pub use names::{find_name, push_name_lines};
+pub use names::push_name_lines;
+pub use opaque::opaque_start;
 pub use refusal::{RegistryRefusal, UnknownReference, ValueRefusal};
 pub use registry::{OpenOptions, OpenedRegistry, open_registry};
 pub use value::{read_value, value_text};

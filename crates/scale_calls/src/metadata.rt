@@ -1,19 +1,24 @@
 //! Opens metadata with the names that it gives to types.
 
-ghost use Rattle.std.specs.Prelude.{◌≡◌, ◌+◌, ◌++◌, ◌<◌, ◌≤◌, ◌^◌, drop, length, Some, IfOk, IfErr};
+ghost use Rattle.std.specs.Prelude.{◌≡◌, ◌+◌, ◌++◌, ◌<◌, ◌≤◌, ◌^◌, drop, length, true, Some, IfOk};
+ghost use Rattle.std.specs.Prelude.{IfErr};
 ghost use Rattle.std.specs.List.{AllByRecursion};
 ghost use Rattle.types_core.specs.Fits.{FitsType};
 ghost use Rattle.chain_core.specs.Listed.{things};
+ghost use Rattle.chain_core.specs.Names.{entries_of};
 ghost use Rattle.chain_core.specs.RestTypes.{rest_types};
 ghost use Rattle.chain_core.specs.Synthetic.{synthetic};
-ghost use Rattle.scale_calls.specs.Named.{IsKnown, IsMetadata, Metadata, RefusesMetadata};
-ghost use Rattle.scale_calls.specs.Named.{RefusesReferences, RefusesRest, all_types, rest_in};
-ghost use Rattle.scale_calls.specs.Named.{metadata_refusal, shifted};
+ghost use Rattle.scale_calls.specs.Named.{IsKnown, IsMetadata, Metadata, RefusesMetadata, Shows};
+ghost use Rattle.scale_calls.specs.Named.{RefusesReferences, RefusesRest, all_names, all_types};
+ghost use Rattle.scale_calls.specs.Named.{metadata_refusal, rest_in, shifted};
+ghost use Rattle.scale_calls.specs.Opened.{file_end};
 
 use crate::refusal::{UnknownReference, ValueRefusal};
 use crate::registry::allowed;
 use crate::value::read_value;
-use chain_core::{list_things, rest_root, synthetic_types, unknown_in_rest, unknown_in_types};
+use chain_core::{
+    Names, list_things, rest_root, rest_types, synthetic_types, unknown_in_rest, unknown_in_types,
+};
 use decode_core::DecodeFault;
 use registry_core::{Registry, RegistryFault, RegistryReason, TypeInfo, Version, read_metadata};
 use std::alloc::{AllocError, Global};
@@ -47,16 +52,24 @@ impl From<AllocError> for MetadataRefusal {
     }
 }
 
-/// Metadata whose names are known.
+/// Metadata with the names that it gives to types.
 #[derive(Drop)]
-pub struct NamedMetadata<'r> {
+pub struct NamedMetadata {
     /// The types of its registry, and the synthetic ones after them.
     pub checked: Checked,
     pub version: Version,
+    /// Where the registry ends, in bytes from the start of the metadata.
+    pub end: usize,
     /// How many types the registry has.
     pub own: u32,
-    /// What follows the registry.
-    pub rest: Value<'r, Global>,
+    pub names: Names,
+}
+
+/// The types of metadata: those of its registry, and the synthetic ones after them.
+#[derive(Drop)]
+struct NamedTypes {
+    checked: Checked,
+    names: Names,
 }
 
 /// Returns the refusal of a fault of the registry; a failed allocation is no fault of the bytes.
@@ -129,17 +142,19 @@ fn extended(registry: Registry, more: Vec<TypeInfo>) -> Result<Registry, AllocEr
     Ok(Registry::from_types(types))
 }
 
-/// Returns the synthetic types of metadata.
+/// Returns the synthetic types of metadata, and its names.
 fn made_types(
     alloc: Global,
     version: Version,
     own: &[TypeInfo],
     rest: &Value<'_, Global>,
-) -> Result<Vec<TypeInfo>, AllocError>
-    ensures exact { IfOk result
-        (λ made. made.items ≡ synthetic own.now (things version own.now rest.now)) }
-    ensures fits { IfOk result (λ made. AllByRecursion FitsType made.items) }
-    ensures few { IfOk result (λ made. length own.now + length made.items < 2 ^ 32) }
+) -> Result<(Vec<TypeInfo>, Names), AllocError>
+    ensures types { IfOk result
+        (λ made. made.0.items ≡ synthetic own.now (things version own.now rest.now)) }
+    ensures names { IfOk result (λ made. entries_of made.1
+        ≡ all_names (record { version = version; own = own.now; rest = rest.now })) }
+    ensures fits { IfOk result (λ made. AllByRecursion FitsType made.0.items) }
+    ensures few { IfOk result (λ made. length own.now + length made.0.items < 2 ^ 32) }
 {
     let root = rest.root();
     let things = list_things(alloc, version, own, &root)?;
@@ -147,7 +162,9 @@ fn made_types(
     if own.len() + things.len() + 4 > u32::MAX as usize {
         return Err(AllocError);
     }
-    synthetic_types(alloc, own, things.as_slice())
+    let made = synthetic_types(alloc, own, things.as_slice())?;
+    let names = Names::new(alloc, things, own.len() as u32)?;
+    Ok((made, names))
 }
 
 /// Checks the references of metadata, whose registry ends at the place `end`, and appends the
@@ -158,9 +175,12 @@ fn check_references(
     registry: Registry,
     rest: &Value<'_, Global>,
     end: usize,
-) -> Result<Checked, MetadataRefusal>
-    ensures ok { IfOk result (λ c.
-        (c.types ≡ all_types (record { version = version; own = registry; rest = rest.now }))
+) -> Result<NamedTypes, MetadataRefusal>
+    ensures ok { IfOk result (λ t.
+        (t.checked.types
+        ≡ all_types (record { version = version; own = registry; rest = rest.now }))
+        × (entries_of t.names
+        ≡ all_names (record { version = version; own = registry; rest = rest.now }))
         × IsKnown (record { version = version; own = registry; rest = rest.now })) }
     ensures err { IfErr result (RefusesReferences
         (record { version = version; own = registry; rest = rest.now }) end) }
@@ -174,10 +194,10 @@ fn check_references(
     if let Some((from, to)) = unknown_in_types(registry.types()) {
         return Err(MetadataRefusal::Check(UnknownReference { from, to }));
     }
-    let made = made_types(alloc, version, registry.types(), rest)?;
+    let (made, names) = made_types(alloc, version, registry.types(), rest)?;
     let registry = extended(registry, made)?;
     match Checked::new(alloc, registry) {
-        Ok(checked) => Ok(checked),
+        Ok(checked) => Ok(NamedTypes { checked, names }),
         Err((CheckFault::UnknownType { from, to }, _)) => {
             Err(MetadataRefusal::Check(UnknownReference {
                 from: from.0,
@@ -188,9 +208,39 @@ fn check_references(
     }
 }
 
-/// Opens metadata with the names that it gives to types: reads its registry and what follows that,
-/// which `types` are the types of ([`rest_types`](chain_core::rest_types)). With `bits`, bit
-/// sequences of a known store and order are read.
+/// Opens metadata, what follows whose registry has these types.
+fn open_with(
+    alloc: Global,
+    types: &Checked,
+    bits: bool,
+    bytes: &[u8],
+) -> Result<NamedMetadata, MetadataRefusal>
+    requires same { types.now.types ≡ rest_types }
+    requires count { length rest_types ≡ 37 }
+    ensures ok { IfOk result (λ m. (x : Metadata) × IsMetadata bits bytes.now x × Shows m x) }
+    ensures end { IfOk result (λ m. file_end true bytes.now ≡ Some m.end) }
+    ensures err { IfErr result (RefusesMetadata bits bytes.now) }
+{
+    let (registry, end, version) = match read_metadata(alloc, bytes) {
+        Ok(read) => read,
+        Err(fault) => return Err(registry_refusal(fault)),
+    };
+    let left = from_place(bytes, end);
+    let rest = read_rest(alloc, types, version, left, end)?;
+    let registry = allowed(registry, bits);
+    let own = registry.types().len() as u32;
+    let NamedTypes { checked, names } = check_references(alloc, version, registry, &rest, end)?;
+    Ok(NamedMetadata {
+        checked,
+        version,
+        end,
+        own,
+        names,
+    })
+}
+
+/// Opens metadata with the names that it gives to types: reads its registry and what follows that.
+/// With `bits`, bit sequences of a known store and order are read.
 ///
 /// # Errors
 ///
@@ -202,32 +252,15 @@ fn check_references(
 /// - `UnknownReference`: the first reference there to a type that the registry lacks.
 /// - `Check`: the first reference of a type to one that the registry lacks.
 /// - `Memory` if an allocation fails, or if there are 2^32 types and names or more.
-pub fn open_metadata<'r>(
+pub fn open_metadata(
     alloc: Global,
-    types: &'r Checked,
     bits: bool,
     bytes: &[u8],
-) -> Result<NamedMetadata<'r>, MetadataRefusal>
-    requires same { types.now.types ≡ rest_types }
-    requires count { length rest_types ≡ 37 }
-    ensures ok { IfOk result (λ m. (x : Metadata) × IsMetadata bits bytes.now x
-        × (x.version ≡ m.version) × (x.rest ≡ m.rest) × (m.own ≡ length x.own)
-        × (m.checked.types ≡ all_types x)) }
+) -> Result<NamedMetadata, MetadataRefusal>
+    ensures ok { IfOk result (λ m. (x : Metadata) × IsMetadata bits bytes.now x × Shows m x) }
+    ensures end { IfOk result (λ m. file_end true bytes.now ≡ Some m.end) }
     ensures err { IfErr result (RefusesMetadata bits bytes.now) }
 {
-    let (registry, end, version) = match read_metadata(alloc, bytes) {
-        Ok(read) => read,
-        Err(fault) => return Err(registry_refusal(fault)),
-    };
-    let left = from_place(bytes, end);
-    let rest = read_rest(alloc, types, version, left, end)?;
-    let registry = allowed(registry, bits);
-    let own = registry.types().len() as u32;
-    let checked = check_references(alloc, version, registry, &rest, end)?;
-    Ok(NamedMetadata {
-        checked,
-        version,
-        own,
-        rest,
-    })
+    let types = rest_types(alloc)?;
+    open_with(alloc, &types, bits, bytes)
 }

@@ -14,7 +14,8 @@ use Rattle.scale_calls.specs.Values.{RefusesValue, value_in}
 use Rattle.scale_calls.specs.declared.refusal.ValueRefusal.{ValueRefusal}
 use Rattle.scale_calls.specs.declared.refusal.ValueRefusal.TheVariants as call
 use Rattle.scale_calls.proofs.Decoded.{by_opening, not_all, refused_by, spelled}
-use Rattle.scale_tool.specs.Opaque.{opaque_start, placed_after}
+use Rattle.scale_calls.specs.Opaque.{opaque_start}
+use Rattle.scale_tool.specs.Opaque.{placed_after}
 use Rattle.scale_tool.specs.Refused.{IsRejected, refusal_of_stream, refusal_of_value}
 use Rattle.scale_tool.specs.Values.{ReadsBytes, ReportsAfter, ReportsFile}
 use Rattle.scale_tool.specs.Values.{ReportsPlain, ReportsSpelled}

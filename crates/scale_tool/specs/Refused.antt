@@ -54,12 +54,6 @@ status_of_registry e = status_of (refusal_of_registry e)
 
 -- ---- values
 
--- the refusal is about the bytes, and not about the type or the limits
-abbrev pub IsOfBytes : ValueRefusal → Type 0
-IsOfBytes value.UnknownType = ⊥
-IsOfBytes value.LimitOutOfRange = ⊥
-IsOfBytes _ = Unit {0}
-
 -- the refusal of the job, if the bytes of a value are rejected
 abbrev pub refusal_of_value : ValueRefusal → Refusal
 refusal_of_value (value.Fault f) = refusal.Value f

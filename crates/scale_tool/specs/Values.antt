@@ -11,7 +11,8 @@ use Rattle.scale_calls.specs.declared.refusal.ValueRefusal.{ValueRefusal}
 use Rattle.scale_calls.specs.declared.refusal.ValueRefusal.TheVariants as value
 use Rattle.hex_text.specs.HexText.{hex_bytes}
 use Rattle.hex_text.specs.declared.fault.HexFault.{HexFault}
-use Rattle.scale_tool.specs.Opaque.{opaque_start, placed_after}
+use Rattle.scale_calls.specs.Opaque.{opaque_start}
+use Rattle.scale_tool.specs.Opaque.{placed_after}
 use Rattle.scale_tool.specs.Refused.{IsRejected, refusal_of_value}
 use Rattle.scale_tool.specs.declared.form.Form.{Form}
 use Rattle.scale_tool.specs.declared.refusal.Refusal.{Refusal}

@@ -11,10 +11,10 @@ use crate::gathering::{GatherFault, gather_all};
 use crate::parts::value_job;
 use crate::refusal::Refusal;
 use crate::text::{Text, held_text, value_text};
-use chain_core::{Found, rest_types};
+use chain_core::NamedType;
 use command_line::{DecodeJob, ValueSource};
 use registry_core::TypeId;
-use scale_calls::{NamedMetadata, find_name, open_metadata, push_name_lines};
+use scale_calls::{NamedMetadata, open_metadata, push_name_lines};
 use scale_core::{ReadOnce, Source};
 use std::alloc::Global;
 
@@ -38,10 +38,9 @@ fn metadata_bytes<R: ReadOnce>(alloc: Global, registry: &mut Source<R>) -> Resul
 fn lines_of(alloc: Global, bytes: &[u8]) -> Result<String, Refusal>
     ensures { IfErr result (λ e. IsDevice e → ⊥) }
 {
-    let types = rest_types(alloc)?;
-    let metadata = open_metadata(alloc, &types, false, bytes)?;
+    let metadata = open_metadata(alloc, false, bytes)?;
     let mut lines = String::new(alloc);
-    push_name_lines(alloc, &mut lines, &metadata)?;
+    push_name_lines(alloc, &mut lines, &metadata.names)?;
     Ok(lines)
 }
 
@@ -61,7 +60,7 @@ pub(crate) fn names_text<R: ReadOnce>(
 }
 
 /// Returns the value of a job, of the type that was found. A value of extrinsics is opaque.
-fn named_value(job: &DecodeJob, name: &str, found: &Found<'_>) -> ValueJob
+fn named_value(job: &DecodeJob, name: &str, found: &NamedType) -> ValueJob
     ensures id { result.id ≡ found.now.id }
     ensures limits { result.limits ≡ job.now.limits }
 {
@@ -75,7 +74,7 @@ fn text_by_name<V: ReadOnce>(
     alloc: Global,
     job: &DecodeJob,
     name: &str,
-    metadata: &NamedMetadata<'_>,
+    metadata: &NamedMetadata,
     value: &mut Source<V>,
 ) -> Result<Text, Refusal>
     requires { AreInRange job.now.limits }
@@ -84,10 +83,10 @@ fn text_by_name<V: ReadOnce>(
     ensures quiet { IsErrOf result Refusal.ValueDevice ⊎ (value.new.failed ≡ value.old.failed) }
     ensures unread { job.now.source ≡ InMetadata → value.new ≡ value.old }
 {
-    let Some(found) = find_name(alloc, metadata, name)? else {
+    let Some(found) = metadata.names.find(name.as_bytes()) else {
         return Err(Refusal::UnknownName);
     };
-    let wanted = named_value(job, name, &found);
+    let wanted = named_value(job, name, found);
     if metadata.checked.class(TypeId(wanted.id)).is_none() {
         return Err(Refusal::UnknownType(wanted.id));
     }
@@ -95,30 +94,19 @@ fn text_by_name<V: ReadOnce>(
         ValueSource::Raw | ValueSource::Hex => {
             value_text(alloc, job.memory, &metadata.checked, wanted, value)
         }
-        ValueSource::Metadata => match found.bytes {
-            Some(bytes) => held_text(alloc, job.memory, &metadata.checked, wanted, bytes),
+        ValueSource::Metadata => match &found.bytes {
+            Some(bytes) => {
+                held_text(
+                    alloc,
+                    job.memory,
+                    &metadata.checked,
+                    wanted,
+                    bytes.as_slice(),
+                )
+            }
             None => Err(Refusal::NoBytes),
         },
     }
-}
-
-/// Returns the text of a value of the type that the metadata of these bytes names so.
-fn text_in<V: ReadOnce>(
-    alloc: Global,
-    job: &DecodeJob,
-    name: &str,
-    bytes: &[u8],
-    value: &mut Source<V>,
-) -> Result<Text, Refusal>
-    requires { AreInRange job.now.limits }
-    ensures device { IfErr result (λ e. IsDevice e → e ≡ Refusal.ValueDevice) }
-    ensures failed { IsErrOf result Refusal.ValueDevice → value.new.failed ≡ true }
-    ensures quiet { IsErrOf result Refusal.ValueDevice ⊎ (value.new.failed ≡ value.old.failed) }
-    ensures unread { job.now.source ≡ InMetadata → value.new ≡ value.old }
-{
-    let types = rest_types(alloc)?;
-    let metadata = open_metadata(alloc, &types, job.bits, bytes)?;
-    text_by_name(alloc, job, name, &metadata, value)
 }
 
 /// Returns the text of a value whose type has a name.
@@ -142,5 +130,6 @@ pub(crate) fn named_text<R: ReadOnce, V: ReadOnce>(
     ensures read_last { (value.new ≡ value.old) ⊎ (registry.new.failed ≡ registry.old.failed) }
 {
     let bytes = metadata_bytes(alloc, registry)?;
-    text_in(alloc, job, name, bytes.as_slice(), value)
+    let metadata = open_metadata(alloc, job.bits, bytes.as_slice())?;
+    text_by_name(alloc, job, name, &metadata, value)
 }

@@ -1,6 +1,8 @@
 -- What each call does to what is behind its handles, and what it reports.
-use Rattle.std.specs.Prelude.{◌≡◌, ℕ, ◌⊎◌, ◌%◌, ◌/◌, ◌==◌, List, [], ◌++◌, length, Option}
-use Rattle.std.specs.Prelude.{Some, None, Result, Ok, Err}
+use Rattle.std.specs.Prelude.{◌≡◌, ℕ, ◌⊎◌, ◌%◌, ◌/◌, ◌==◌, ◌&&◌, Bool, true, List, [], ◌++◌}
+use Rattle.std.specs.Prelude.{length, if◌then◌else◌, Option, Some, None, Result, Ok, Err}
+use Rattle.chain_core.specs.Names.{Entry, entries_of}
+use Rattle.chain_core.specs.declared.names.Names.{Names}
 use Rattle.limits_core.specs.declared.limits.Limits.{Limits}
 use Rattle.grammar_core.specs.Tree.{nodes, text_bytes as tree_text_bytes}
 use Rattle.json_core.specs.Json.{json_text}
@@ -13,14 +15,17 @@ use Rattle.decode_core.specs.declared.decoder.Progress.{Progress}
 use Rattle.decode_core.specs.declared.fault.DecodeFault.{DecodeFault}
 use Rattle.decode_core.specs.declared.fault.OpenFault.{OpenFault}
 use Rattle.scale_calls.specs.Lines.{type_line}
+use Rattle.scale_calls.specs.Named.{IsMetadata, Metadata, RefusesMetadata, all_names, all_types}
 use Rattle.scale_calls.specs.Opened.{RefusesRegistry, checked_of, file_end, file_version}
 use Rattle.scale_calls.specs.Refused.{opening_refusal, value_refusal}
 use Rattle.scale_calls.specs.Values.{ShowsValue}
+use Rattle.scale_calls.specs.declared.metadata.MetadataRefusal.{MetadataRefusal}
 use Rattle.scale_calls.specs.declared.refusal.RegistryRefusal.{RegistryRefusal}
 use Rattle.scale_calls.specs.declared.registry.OpenOptions.{OpenOptions}
 use Rattle.scale_calls.specs.declared.refusal.ValueRefusal.{ValueRefusal}
 use Rattle.scale_calls.specs.declared.refusal.ValueRefusal.TheVariants as value
-use Rattle.scaleview_c.specs.Codes.{count_answer, opened_answer, plain, progress_answer}
+use Rattle.scaleview_c.specs.Codes.{count_answer, metadata_answer, opened_answer, plain}
+use Rattle.scaleview_c.specs.Codes.{progress_answer}
 use Rattle.scaleview_c.specs.Codes.{registry_answer, text_answer}
 use Rattle.scaleview_c.specs.Codes.{value_answer}
 use Rattle.scaleview_c.specs.declared.codes.Answer.{Answer}
@@ -48,30 +53,56 @@ WritesUnlessMemory text old new a = Leaves old new (plain 3) a ⊎ Writes text o
 abbrev pub options_of : ℕ → OpenOptions
 options_of flags = record { metadata = flags % 2 == 1; bits = flags / 4 % 2 == 1 }
 
+-- whether names are read too: bit 1, together with bit 0
+abbrev pub reads_names : ℕ → Bool
+reads_names flags = (flags % 2 == 1) && (flags / 2 % 2 == 1)
+
+-- the names of an open registry, none if they weren't read
+abbrev pub names_if : Option Names → List Entry
+names_if (Some names) = entries_of names
+names_if None = []
+
+abbrev pub names_in : Opened → List Entry
+names_in o = names_if o.names
+
 -- the registry that the bytes hold is behind the handle; or nothing is, and the answer says why
 abbrev pub OpensRegistry : OpenOptions → List ℕ → Option Resource → Answer → Type 0
 OpensRegistry options b (Some (held.Registry o)) a = (checked_of options b ≡ Some o.checked.types)
-    × ((end : ℕ) × (file_end options.metadata b ≡ Some end)
+    × (names_in o ≡ []) × ((end : ℕ) × (file_end options.metadata b ≡ Some end)
     × (a ≡ opened_answer (file_version options.metadata b) end (length o.checked.types)))
 OpensRegistry options b (Some (held.Session s)) a = ⊥
 OpensRegistry options b None a = (e : RegistryRefusal) × RefusesRegistry options b e
     × (a ≡ registry_answer e)
+
+-- the types that the metadata has and makes are behind the handle, with its names
+abbrev pub OpensMetadata : Bool → List ℕ → Option Resource → Answer → Type 0
+OpensMetadata bits b (Some (held.Registry o)) a = (m : Metadata) × IsMetadata bits b m
+    × (o.checked.types ≡ all_types m) × (names_in o ≡ all_names m)
+    × ((end : ℕ) × (file_end true b ≡ Some end)
+    × (a ≡ opened_answer (Some m.version) end (length o.checked.types)))
+OpensMetadata bits b (Some (held.Session s)) a = ⊥
+OpensMetadata bits b None a = (e : MetadataRefusal) × RefusesMetadata bits b e
+    × (a ≡ metadata_answer e)
+
+-- the bytes are opened as the flags say
+abbrev pub OpensBytes : ℕ → List ℕ → Option Resource → Answer → Type 0
+OpensBytes flags b new a = if reads_names flags then OpensMetadata (options_of flags).bits b new a
+    else OpensRegistry (options_of flags) b new a
 
 -- the answer says that the handle isn't null, and what is behind it stays
 abbrev pub Stays : Option Resource → Option Resource → Answer → Type 0
 Stays old new a = (new ≡ old) × (a ≡ plain 6)
 
 -- the registry is opened behind a null handle
-abbrev pub OpensHandle : Option Resource → OpenOptions → List ℕ → Option Resource → Answer → Type 0
-OpensHandle (Some old) options b new a = Stays (Some old) new a
-OpensHandle None options b new a = OpensRegistry options b new a
+abbrev pub OpensHandle : Option Resource → ℕ → List ℕ → Option Resource → Answer → Type 0
+OpensHandle (Some old) flags b new a = Stays (Some old) new a
+OpensHandle None flags b new a = OpensBytes flags b new a
 
--- the same for a box, by what it holds
-abbrev pub OpensBox : {X : Type 0} → (X → Resource) → OpenOptions → List ℕ →
-    Result (X × Answer) RegistryRefusal →
-    Type 0
-OpensBox value_of options b (Ok x) = OpensRegistry options b (Some (value_of x.0)) x.1
-OpensBox value_of options b (Err e) = RefusesRegistry options b e
+-- this holds of a box, by its value, and of the answer; or of no box and the answer
+abbrev pub OpensBox : {X : Type 0} → (X → Resource) → (Option Resource → Answer → Type 0) →
+    Result (X × Answer) Answer → Type 0
+OpensBox value_of opens (Ok x) = opens (Some (value_of x.0)) x.1
+OpensBox value_of opens (Err a) = opens None a
 
 -- nothing is behind the handle any more; or what is there stays, because a session has the registry
 -- or because it is no registry

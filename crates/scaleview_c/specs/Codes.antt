@@ -8,6 +8,8 @@ use Rattle.machine_core.specs.declared.reason.DecodeReason.{DecodeReason}
 use Rattle.machine_core.specs.declared.reason.DecodeReason.TheVariants as reason
 use Rattle.decode_core.specs.declared.decoder.Progress.{Progress}
 use Rattle.decode_core.specs.declared.decoder.Progress.TheVariants as progress
+use Rattle.scale_calls.specs.declared.metadata.MetadataRefusal.{MetadataRefusal}
+use Rattle.scale_calls.specs.declared.metadata.MetadataRefusal.TheVariants as metadata
 use Rattle.scale_calls.specs.declared.refusal.RegistryRefusal.{RegistryRefusal}
 use Rattle.scale_calls.specs.declared.refusal.RegistryRefusal.TheVariants as types
 use Rattle.scale_calls.specs.declared.refusal.ValueRefusal.{ValueRefusal}
@@ -88,6 +90,16 @@ value_answer value.LimitOutOfRange = plain 202
 value_answer (value.Fault fault) = refused (value_code fault.reason) fault.at
 value_answer (value.TrailingBytes at) = refused 313 at
 value_answer value.Memory = plain 3
+
+-- why there is no metadata: what follows the registry is a value
+abbrev pub metadata_answer : MetadataRefusal → Answer
+metadata_answer (metadata.Registry fault) = registry_answer (types.Fault fault)
+metadata_answer (metadata.Rest fault) = value_answer (value.Fault fault)
+metadata_answer (metadata.TrailingBytes at) = registry_answer (types.TrailingBytes at)
+metadata_answer (metadata.UnknownReference ty at) =
+    record { code = 113; from = ty; at = at; length = 0 }
+metadata_answer (metadata.Check unknown) = registry_answer (types.Check unknown)
+metadata_answer metadata.Memory = plain 3
 
 -- why records are no value: the builder's reasons, from 401 on
 abbrev pub record_code : BuildFault → ℕ

@@ -1,7 +1,8 @@
 pub mod Calls
 pub mod Codes
-pub mod Names
 pub mod Kept
-pub mod Owned
-pub mod Types
 pub mod Nodes
+pub mod Owned
+pub mod Reasons
+pub mod TypeNames
+pub mod Types

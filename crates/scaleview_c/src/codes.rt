@@ -2,8 +2,8 @@
 //! `clients/c/scaleview.h`, and never change.
 
 ghost use Rattle.std.specs.Prelude.{◌≡◌};
-ghost use Rattle.scaleview_c.specs.Codes.{count_answer, opened_answer, plain, progress_answer};
-ghost use Rattle.scaleview_c.specs.Codes.{refused};
+ghost use Rattle.scaleview_c.specs.Codes.{count_answer, metadata_answer, opened_answer, plain};
+ghost use Rattle.scaleview_c.specs.Codes.{progress_answer, refused};
 ghost use Rattle.scaleview_c.specs.Codes.{registry_answer, registry_code, text_answer};
 ghost use Rattle.scaleview_c.specs.Codes.{opening_code, record_code, records_answer};
 ghost use Rattle.scaleview_c.specs.Codes.{value_answer, value_code};
@@ -11,7 +11,7 @@ ghost use Rattle.scaleview_c.specs.Codes.{value_answer, value_code};
 use decode_core::{DecodeReason, Progress};
 use record_core::RecordFault;
 use registry_core::{RegistryReason, Version};
-use scale_calls::{RegistryRefusal, ValueRefusal};
+use scale_calls::{MetadataRefusal, RegistryRefusal, ValueRefusal};
 use value_core::BuildFault;
 
 /// The call succeeded.
@@ -34,16 +34,21 @@ pub const UNKNOWN_TYPE: u32 = 201;
 pub const LIMIT_OUT_OF_RANGE: u32 = 202;
 /// The type has no such part.
 pub const UNKNOWN_PART: u32 = 203;
+/// The metadata has no such name.
+pub const UNKNOWN_NAME: u32 = 204;
+/// The metadata has no bytes for the name.
+pub const NO_BYTES: u32 = 205;
 
 /// What a call reports: its code, and numbers, which are 0 unless the code gives them a meaning.
 #[repr(C)]
 #[derive(Clone, Copy, Debug, PartialEq, Eq)]
 pub struct Answer {
     pub code: u32,
-    /// The position of the type that has an unknown reference, or the version of metadata.
+    /// The position of the type that has an unknown reference, that metadata refers to, or that a
+    /// name stands for; or the version of metadata.
     pub from: u32,
-    /// The place of a refusal in bytes, the position of a rejected record, where a registry ends,
-    /// or the number of bytes of a pool.
+    /// The place of a refusal in bytes, the position of a rejected record, where a registry ends or
+    /// an opaque value begins, the number of bytes of a pool, or whether a name has bytes.
     pub at: u64,
     /// The number of bytes of a text, of types, of records, or of bytes of a piece that belong to
     /// the value.
@@ -191,6 +196,29 @@ impl Answer {
                 length: 0,
             },
             RegistryRefusal::Memory => Answer::plain(MEMORY),
+        }
+    }
+
+    /// Returns the answer that says why there is no metadata.
+    pub(crate) fn of_metadata(refusal: MetadataRefusal) -> Answer
+        ensures { result ≡ metadata_answer refusal }
+    {
+        match refusal {
+            MetadataRefusal::Registry(fault) => Answer::of_registry(RegistryRefusal::Fault(fault)),
+            MetadataRefusal::Rest(fault) => Answer::of_value(ValueRefusal::Fault(fault)),
+            MetadataRefusal::TrailingBytes(at) => {
+                Answer::of_registry(RegistryRefusal::TrailingBytes(at))
+            }
+            MetadataRefusal::UnknownReference { ty, at } => Answer {
+                code: 113,
+                from: ty,
+                at,
+                length: 0,
+            },
+            MetadataRefusal::Check(unknown) => {
+                Answer::of_registry(RegistryRefusal::Check(unknown))
+            }
+            MetadataRefusal::Memory => Answer::plain(MEMORY),
         }
     }
 

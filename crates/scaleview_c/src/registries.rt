@@ -1,8 +1,9 @@
 //! The calls on a registry.
 
 ghost use Rattle.std.specs.Prelude.{◌≡◌, None, Some};
-ghost use Rattle.scaleview_c.specs.Calls.{ClosesRegistry, OpensBox, OpensHandle, ReportsTypes};
-ghost use Rattle.scaleview_c.specs.Calls.{WritesJson, WritesLine, WritesValue, options_of};
+ghost use Rattle.scaleview_c.specs.Calls.{ClosesRegistry, OpensBox, OpensBytes, OpensHandle};
+ghost use Rattle.scaleview_c.specs.Calls.{OpensMetadata, OpensRegistry, ReportsTypes, WritesJson};
+ghost use Rattle.scaleview_c.specs.Calls.{WritesLine, WritesValue, options_of, reads_names};
 ghost use Rattle.scaleview_c.specs.Kept.{GivesRegistry};
 
 use crate::codes::{Answer, MEMORY, NO_HANDLE, OK, TAKEN, UNKNOWN_TYPE};
@@ -14,7 +15,8 @@ use crate::resource::Resource;
 use crate::text::{put, put_json};
 use budget_core::Budget;
 use scale_calls::{
-    OpenOptions, OpenedRegistry, RegistryRefusal, open_registry, read_value, type_line,
+    MetadataRefusal, NamedMetadata, OpenOptions, OpenedRegistry, RegistryRefusal, open_metadata,
+    open_registry, read_value, type_line,
 };
 use std::alloc::Global;
 use std::mem;
@@ -30,30 +32,73 @@ fn options_of(flags: u32) -> OpenOptions
     }
 }
 
+/// Returns whether flags say that names are read too.
+fn reads_names(flags: u32) -> bool
+    ensures { result ≡ reads_names flags }
+{
+    flags % 2 == 1 && flags / 2 % 2 == 1
+}
+
 /// Opens the registry that the bytes hold, and returns the answer that reports it.
-fn opened(
+fn open_types(
     alloc: Global,
     options: OpenOptions,
     bytes: &[u8],
-) -> Result<(Box<Resource>, Answer), RegistryRefusal>
-    ensures { OpensBox (λ held. held.value) options bytes.now result }
+) -> Result<(Box<Resource>, Answer), Answer>
+    ensures { OpensBox (λ held. held.value) (OpensRegistry options bytes.now) result }
 {
     let OpenedRegistry {
         checked,
         version,
         end,
-    } = open_registry(alloc, options, bytes)?;
+    } = match open_registry(alloc, options, bytes) {
+        Ok(opened) => opened,
+        Err(refusal) => return Err(Answer::of_registry(refusal)),
+    };
     let answer = Answer::of_opened(version, end, checked.registry().types().len());
-    match Box::new(alloc, Resource::Registry(Opened::new(checked))) {
+    match Box::new(alloc, Resource::Registry(Opened::new(checked, None))) {
         Ok(held) => Ok((held, answer)),
-        Err(_) => Err(RegistryRefusal::Memory),
+        Err(_) => Err(Answer::of_registry(RegistryRefusal::Memory)),
+    }
+}
+
+/// Opens the metadata that the bytes are, with its names, and returns the answer that reports it.
+fn open_names(alloc: Global, bits: bool, bytes: &[u8]) -> Result<(Box<Resource>, Answer), Answer>
+    ensures { OpensBox (λ held. held.value) (OpensMetadata bits bytes.now) result }
+{
+    let NamedMetadata {
+        checked,
+        version,
+        end,
+        own: _,
+        names,
+    } = match open_metadata(alloc, bits, bytes) {
+        Ok(opened) => opened,
+        Err(refusal) => return Err(Answer::of_metadata(refusal)),
+    };
+    let answer = Answer::of_opened(Some(version), end, checked.registry().types().len());
+    match Box::new(alloc, Resource::Registry(Opened::new(checked, Some(names)))) {
+        Ok(held) => Ok((held, answer)),
+        Err(_) => Err(Answer::of_metadata(MetadataRefusal::Memory)),
+    }
+}
+
+/// Opens the bytes as flags say, and returns the answer that reports it.
+fn open_bytes(alloc: Global, flags: u32, bytes: &[u8]) -> Result<(Box<Resource>, Answer), Answer>
+    ensures { OpensBox (λ held. held.value) (OpensBytes flags bytes.now) result }
+{
+    let options = options_of(flags);
+    if reads_names(flags) {
+        open_names(alloc, options.bits, bytes)
+    } else {
+        open_types(alloc, options, bytes)
     }
 }
 
 /// Opens the registry that the bytes hold, behind a null handle.
 ///
-/// In `flags`, bit 0 is 1 if the registry is in metadata, and bit 2 if bit sequences are read;
-/// other bits are ignored.
+/// In `flags`, bit 0 is 1 if the registry is in metadata, and bit 2 if bit sequences are read. With
+/// bit 0, bit 1 is 1 if the names of the metadata are read too. Other bits are ignored.
 #[unsafe(no_mangle)]
 pub extern "C" fn scaleview_open(
     alloc: Global,
@@ -62,8 +107,7 @@ pub extern "C" fn scaleview_open(
     registry: &mut Handle,
     answer: &mut Answer,
 ) -> u32
-    ensures opened { OpensHandle registry.old.value (options_of flags) bytes.now
-        registry.new.value answer.new }
+    ensures opened { OpensHandle registry.old.value flags bytes.now registry.new.value answer.new }
     ensures code { result ≡ answer.new.code }
 {
     if let Some(held) = held_by(alloc, mem::replace(registry, Handle::none())) {
@@ -71,12 +115,12 @@ pub extern "C" fn scaleview_open(
         *answer = Answer::plain(TAKEN);
         return TAKEN;
     }
-    match opened(alloc, options_of(flags), bytes) {
+    match open_bytes(alloc, flags, bytes) {
         Ok((held, opened)) => {
             *registry = handle_of(held);
             *answer = opened;
         }
-        Err(refusal) => *answer = Answer::of_registry(refusal),
+        Err(refused) => *answer = refused,
     }
     answer.code
 }

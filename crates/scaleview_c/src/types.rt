@@ -129,7 +129,7 @@ impl TypeShape {
 }
 
 /// Writes a name, and returns the answer with two numbers beside its length.
-fn put_name(out: &mut [u8], name: &[u8], from: u32, at: u64) -> Answer
+pub(crate) fn put_name(out: &mut [u8], name: &[u8], from: u32, at: u64) -> Answer
     ensures { WritesName name.now from at out.old out.new result }
 {
     Answer {

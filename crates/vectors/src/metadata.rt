@@ -5,8 +5,7 @@ use crate::commands::check_words;
 use crate::registries::Registries;
 use crate::way::Way;
 use crate::wrong::{Wrong, check_text};
-use chain_core::rest_types;
-use scale_calls::{open_metadata, push_name_lines};
+use scale_calls::open_metadata;
 use std::alloc::Global;
 
 /// Checks one row: the numbers of own types, of all types and of names, or the line of a refusal.
@@ -25,14 +24,11 @@ pub(crate) fn check_row(
         return check_words(alloc, registries, &words);
     }
     let bytes = bytes_of(alloc, bytes)?;
-    let types = rest_types(alloc)?;
-    let Ok(metadata) = open_metadata(alloc, &types, false, &bytes) else {
+    let Ok(metadata) = open_metadata(alloc, false, &bytes) else {
         return Err(Wrong::Call("open_metadata"));
     };
-    let mut lines = String::new(alloc);
-    push_name_lines(alloc, &mut lines, &metadata)?;
     let all = metadata.checked.registry().types().len();
-    let names = lines.as_str().lines().count();
+    let names = metadata.names.len();
     let found = format!(in alloc; "{} {all} {names}", metadata.own)?;
     check_text(alloc, Way::OpenMetadata, answer, &found)?;
     Ok(1)

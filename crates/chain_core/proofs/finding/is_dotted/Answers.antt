@@ -1,6 +1,6 @@
 use Rattle.std.proofs.lemmas.Bool.Decides.{Decides-eqb}
 use Rattle.std.proofs.lemmas.Slice.Eq.{slice_eq-Decides}
-use Rattle.chain_core.proofs.Names.{after_dot, no_dot}
+use Rattle.chain_core.proofs.NameTexts.{after_dot, no_dot}
 use Rattle.chain_core.proofs.finding.is_dotted.Goals as goal
 
 pub returns-in-Some-after_front : goal.returns-in-Some-after_front

@@ -10,18 +10,19 @@ abbrev pub calls : List (List ℕ)
 calls = codes "Ok" ∷ codes "More" ∷ codes "NoRoom" ∷ codes "OutOfMemory" ∷ codes "Lent"
     ∷ codes "NoHandle" ∷ codes "Taken" ∷ []
 
--- those from 101 on: the reasons of a registry, and two more
+-- those from 101 on: the reasons of a registry, and three more
 abbrev pub of_registry : List (List ℕ)
 of_registry = registry_reason_name types.Truncated ∷ registry_reason_name types.BadUtf8
     ∷ registry_reason_name types.CompactNotShortest ∷ registry_reason_name types.CompactTooLarge
     ∷ registry_reason_name types.BadOption ∷ registry_reason_name types.BadDefinition
     ∷ registry_reason_name types.BadPrimitive ∷ registry_reason_name types.IdOutOfPlace
     ∷ registry_reason_name types.NotMetadata ∷ registry_reason_name types.WrongVersion
-    ∷ codes "TrailingBytes" ∷ codes "UnknownType" ∷ []
+    ∷ codes "TrailingBytes" ∷ codes "UnknownType" ∷ codes "UnknownReference" ∷ []
 
 -- those from 201 on
 abbrev pub of_opening : List (List ℕ)
-of_opening = codes "UnknownType" ∷ codes "LimitOutOfRange" ∷ codes "UnknownPart" ∷ []
+of_opening = codes "UnknownType" ∷ codes "LimitOutOfRange" ∷ codes "UnknownPart"
+    ∷ codes "UnknownName" ∷ codes "NoBytes" ∷ []
 
 -- those from 301 on: the reasons of a value, and bytes after it
 abbrev pub of_value : List (List ℕ)
@@ -43,9 +44,9 @@ of_records = codes "TooDeep" ∷ codes "NoFiniteValue" ∷ codes "BitSequence" �
 abbrev pub code_name : ℕ → List ℕ
 code_name code = if nat_le code 6 then slice_index_or calls code []
     else if nat_le code 100 then []
-    else if nat_le code 112 then slice_index_or of_registry (code - 101) []
+    else if nat_le code 113 then slice_index_or of_registry (code - 101) []
     else if nat_le code 200 then []
-    else if nat_le code 203 then slice_index_or of_opening (code - 201) []
+    else if nat_le code 205 then slice_index_or of_opening (code - 201) []
     else if nat_le code 300 then []
     else if nat_le code 314 then slice_index_or of_value (code - 301) []
     else if nat_le code 400 then []

@@ -2,7 +2,7 @@
 
 ghost use Rattle.std.specs.Prelude.{◌≡◌};
 ghost use Rattle.scaleview_c.specs.Calls.{Writes};
-ghost use Rattle.scaleview_c.specs.Names.{code_name};
+ghost use Rattle.scaleview_c.specs.Reasons.{code_name};
 
 use crate::codes::Answer;
 use crate::text::put;
@@ -23,7 +23,7 @@ const CALLS: [&str; 7] = [
 ];
 
 /// The names of the codes from 101 on, which say why bytes hold no registry.
-const REGISTRY: [&str; 12] = [
+const REGISTRY: [&str; 13] = [
     "Truncated",
     "BadUtf8",
     "CompactNotShortest",
@@ -36,10 +36,17 @@ const REGISTRY: [&str; 12] = [
     "WrongVersion",
     "TrailingBytes",
     "UnknownType",
+    "UnknownReference",
 ];
 
-/// The names of the codes from 201 on, which reject a type, a limit or a part.
-const OPENING: [&str; 3] = ["UnknownType", "LimitOutOfRange", "UnknownPart"];
+/// The names of the codes from 201 on, which reject a type, a limit, a part or a name.
+const OPENING: [&str; 5] = [
+    "UnknownType",
+    "LimitOutOfRange",
+    "UnknownPart",
+    "UnknownName",
+    "NoBytes",
+];
 
 /// The names of the codes from 301 on, which say why bytes hold no value.
 const VALUE: [&str; 14] = [
@@ -78,8 +85,8 @@ fn code_name(code: u32) -> &'static str
 {
     match code {
         0..=6 => CALLS[code as usize],
-        101..=112 => REGISTRY[code as usize - 101],
-        201..=203 => OPENING[code as usize - 201],
+        101..=113 => REGISTRY[code as usize - 101],
+        201..=205 => OPENING[code as usize - 201],
         301..=314 => VALUE[code as usize - 301],
         401..=409 => RECORDS[code as usize - 401],
         _ => "",

@@ -2,7 +2,7 @@ use Rattle.std.proofs.Common.{drop, length, refl, ap, ◌∙◌}
 use Rattle.std.proofs.lemmas.Result.{err_from_is_err_and}
 use Rattle.scale_calls.specs.Opened.{types_by}
 use Rattle.scale_calls.proofs.Metadatas.{by_reference, by_rest, ends_there}
-use Rattle.scale_calls.proofs.metadata.open_metadata.Goals as goal
+use Rattle.scale_calls.proofs.metadata.open_with.Goals as goal
 
 pub returns-in_err-rest-clause-err : goal.returns-in_err-rest-clause-err
 returns-in_err-rest-clause-err c =
@@ -42,10 +42,12 @@ returns-clause-ok c =
         read = c.in-Ok.ensures.exact.1;
         own = refl;
         rest = rw c.from_place-left.ensures at c.in_ok-rest.ensures.ok;
-        known = ok.1;
+        known = ok.2;
       },
-      refl,
-      refl,
-      ap length (c.types.ensures.same ∙ c.allowed-registry.ensures),
-      ok.0,
+      record {
+        version = refl;
+        own = ap length (c.types.ensures.same ∙ c.allowed-registry.ensures);
+        types = ok.0;
+        names = ok.1;
+      },
     )
