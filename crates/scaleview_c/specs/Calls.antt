@@ -1,6 +1,6 @@
 -- What each call does to what is behind its handles, and what it reports.
-use Rattle.std.specs.Prelude.{◌≡◌, ℕ, ◌⊎◌, ◌%◌, ◌/◌, ◌==◌, ◌&&◌, Bool, true, List, [], ◌++◌}
-use Rattle.std.specs.Prelude.{length, if◌then◌else◌, Option, Some, None, Result, Ok, Err}
+use Rattle.std.specs.Prelude.{◌≡◌, ℕ, ◌⊎◌, ◌%◌, ◌/◌, ◌==◌, ◌&&◌, Bool, true, false, List, []}
+use Rattle.std.specs.Prelude.{◌++◌, length, Option, Some, None, Result, Ok, Err}
 use Rattle.chain_core.specs.Names.{Entry, entries_of}
 use Rattle.chain_core.specs.declared.names.Names.{Names}
 use Rattle.limits_core.specs.declared.limits.Limits.{Limits}
@@ -84,10 +84,14 @@ OpensMetadata bits b (Some (held.Session s)) a = ⊥
 OpensMetadata bits b None a = (e : MetadataRefusal) × RefusesMetadata bits b e
     × (a ≡ metadata_answer e)
 
+-- the bytes are opened with names or without
+abbrev pub OpensBy : Bool → OpenOptions → List ℕ → Option Resource → Answer → Type 0
+OpensBy true options b new a = OpensMetadata options.bits b new a
+OpensBy false options b new a = OpensRegistry options b new a
+
 -- the bytes are opened as the flags say
 abbrev pub OpensBytes : ℕ → List ℕ → Option Resource → Answer → Type 0
-OpensBytes flags b new a = if reads_names flags then OpensMetadata (options_of flags).bits b new a
-    else OpensRegistry (options_of flags) b new a
+OpensBytes flags b new a = OpensBy (reads_names flags) (options_of flags) b new a
 
 -- the answer says that the handle isn't null, and what is behind it stays
 abbrev pub Stays : Option Resource → Option Resource → Answer → Type 0

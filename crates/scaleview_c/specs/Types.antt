@@ -1,5 +1,5 @@
 -- What the calls that describe a type report.
-use Rattle.std.specs.Prelude.{◌≡◌, ℕ, ◌⊎◌, List, [], length, nat_le, if◌then◌else◌, Option, Some}
+use Rattle.std.specs.Prelude.{◌≡◌, ℕ, List, [], length, nat_le, if◌then◌else◌, Option, Some}
 use Rattle.std.specs.Prelude.{None, Result, Ok, Err}
 use Rattle.json_core.specs.Printed.{IsInFront}
 use Rattle.types_core.specs.Bytes.{primitive_byte}
@@ -12,7 +12,7 @@ use Rattle.scale_calls.specs.Describing.{IsFirstOfPath, Named, arm_field, type_a
 use Rattle.scale_calls.specs.Describing.{type_part, type_path}
 use Rattle.scale_calls.specs.declared.describing.PartRefusal.{PartRefusal}
 use Rattle.scale_calls.specs.declared.describing.PartRefusal.TheVariants as refusal
-use Rattle.scaleview_c.specs.Calls.{Leaves, Writes, WritesKnown}
+use Rattle.scaleview_c.specs.Calls.{Leaves, WritesKnown}
 use Rattle.scaleview_c.specs.Codes.{plain}
 use Rattle.scaleview_c.specs.declared.codes.Answer.{Answer}
 use Rattle.scaleview_c.specs.declared.resource.Resource.{Resource}

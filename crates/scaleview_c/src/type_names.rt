@@ -48,7 +48,7 @@ fn has_bytes(named: &NamedType) -> u64
 
 /// Returns the answer that reports what the metadata has for a name.
 fn entry_answer(found: Option<&NamedType>) -> Answer
-    ensures { result ≡ entry_answer (option_map (λ t. entry_of t.now) found) }
+    ensures { result ≡ entry_answer (option_map (λ t. entry_of t.now) found.entry) }
 {
     match found {
         Some(named) => Answer {
