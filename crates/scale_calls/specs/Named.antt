@@ -1,5 +1,5 @@
 -- Metadata that is opened with its names.
-use Rattle.std.specs.Prelude.{◌≡◌, ◌+◌, ◌-◌, ◌^◌, min, ℕ, List, ◌++◌, length, Option, Some}
+use Rattle.std.specs.Prelude.{◌≡◌, ◌+◌, ◌-◌, ◌<◌, ◌^◌, min, ℕ, List, ◌++◌, length, Option, Some}
 use Rattle.std.specs.Prelude.{None, Ok, Err, Bool, true, ◌⊎◌}
 use Rattle.scale_core.specs.Read.{place}
 use Rattle.types_core.specs.declared.type_info.TypeInfo.{TypeInfo}
@@ -9,6 +9,7 @@ use Rattle.registry_core.specs.declared.fault.RegistryReason.{RegistryReason}
 use Rattle.registry_core.specs.declared.fault.RegistryReason.TheVariants as registry
 use Rattle.registry_core.specs.declared.version.Version.{Version}
 use Rattle.graph_core.specs.References.{first_fault}
+use Rattle.widths_core.specs.Classes.{class_of}
 use Rattle.node_core.specs.Shown.{Seen}
 use Rattle.outcome_core.specs.Outcome.{Query}
 use Rattle.decode_core.specs.Decoding.{FinishesDecoder}
@@ -43,15 +44,21 @@ pub record Metadata : Type 0 where
 abbrev pub all_types : Metadata → List TypeInfo
 all_types m = m.own ++ synthetic m.own (things m.version m.own m.rest)
 
+-- the first types have the same classes among all types as on their own
+abbrev pub KeepsClasses : List TypeInfo → List TypeInfo → Type 0
+KeepsClasses own all = (t : ℕ) → t < length own → class_of all t ≡ class_of own t
+
 -- all names, each with the position of its type
 abbrev pub all_names : Metadata → List Entry
 all_names m = placed (things m.version m.own m.rest) (length m.own)
 
--- this is opened of the metadata: its version, all types, and the names
+-- this is opened of the metadata: its version, all types, of which its own keep their classes, and
+-- the names
 pub record Shows (m : NamedMetadata) (x : Metadata) : Type 0 where
   pub version : m.version ≡ x.version
   pub own : m.own ≡ length x.own
   pub types : m.checked.types ≡ all_types x
+  pub classes : KeepsClasses x.own m.checked.types
   pub names : entries_of m.names ≡ all_names x
 
 -- every reference is a position of the own types: those of the rest, and those of these types; so

@@ -1,6 +1,9 @@
 use Rattle.std.proofs.Common.{drop, length, refl, ap, ◌∙◌}
 use Rattle.std.proofs.lemmas.Result.{err_from_is_err_and}
+use Rattle.chain_core.specs.Listed.{things}
+use Rattle.chain_core.specs.Synthetic.{synthetic}
 use Rattle.scale_calls.specs.Opened.{types_by}
+use Rattle.scale_calls.proofs.KeptClasses.{classes_kept}
 use Rattle.scale_calls.proofs.Metadatas.{by_reference, by_rest, ends_there}
 use Rattle.scale_calls.proofs.metadata.open_with.Goals as goal
 
@@ -30,10 +33,11 @@ pub returns-clause-ok : goal.returns-clause-ok
 returns-clause-ok c =
     let bytes = c.args.bytes.now in
     let end = c.in-Ok.read.1 in
+    let own = types_by c.args.bits c.in-Ok.read.0 in
     let ok = rw c.allowed-registry.ensures at c.in_ok-checked.ensures.ok in (
       record {
         version = c.in-Ok.read.2;
-        own = types_by c.args.bits c.in-Ok.read.0;
+        own = own;
         rest = c.in_ok-rest.rest;
       },
       record {
@@ -48,6 +52,8 @@ returns-clause-ok c =
         version = refl;
         own = ap length (c.types.ensures.same ∙ c.allowed-registry.ensures);
         types = ok.0;
+        classes = rw ok.0 (classes_kept own
+            (synthetic own (things c.in-Ok.read.2 own c.in_ok-rest.rest)) ok.2.own);
         names = ok.1;
       },
     )
