@@ -1,5 +1,6 @@
 pub mod Describing
 pub mod Lines
+pub mod NameLines
 pub mod Named
 pub mod Opaque
 pub mod Opened

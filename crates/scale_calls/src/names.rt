@@ -1,12 +1,19 @@
 //! The lines that show the names of metadata.
 
-use chain_core::Names;
+ghost use Rattle.std.specs.Prelude.{◌≡◌, ◌++◌, List, ℕ, OnOk, string_bytes};
+ghost use Rattle.std.specs.List.{list_any};
+ghost use Rattle.chain_core.specs.Names.{Entry, entries_of, entry_of};
+ghost use Rattle.scale_calls.specs.NameLines.{AreLines, is_control, name_line, shown_name};
+
+use chain_core::{NamedType, Names};
 use serde_json::Value;
 use std::alloc::{AllocError, Global};
 
 /// Returns whether a text has a character below U+0020.
-fn has_control(text: &str) -> bool {
-    'bytes: for byte in text.as_bytes() {
+fn has_control(text: &[u8]) -> bool
+    ensures { result ≡ list_any is_control text.now }
+{
+    'bytes: for byte in text {
         if *byte < b' ' {
             return true;
         }
@@ -15,12 +22,28 @@ fn has_control(text: &str) -> bool {
 }
 
 /// Appends a name: as it stands, or as a JSON string if it has a character below U+0020.
-fn push_shown(alloc: Global, lines: &mut String, name: String) -> Result<(), AllocError> {
-    if !has_control(name.as_str()) {
+fn push_shown(alloc: Global, lines: &mut String, name: String) -> Result<(), AllocError>
+    ensures { OnOk result (string_bytes lines.new
+        ≡ string_bytes lines.old ++ shown_name (string_bytes name)) }
+{
+    if !has_control(name.as_bytes()) {
         return lines.push_str(name.as_str());
     }
     let shown = Value::String(name).to_string(alloc)?;
     lines.push_str(shown.as_str())
+}
+
+/// Appends the line of a name.
+fn push_line(alloc: Global, lines: &mut String, named: &NamedType) -> Result<(), AllocError>
+    ensures { OnOk result (string_bytes lines.new
+        ≡ string_bytes lines.old ++ name_line (entry_of named.now)) }
+{
+    let mut name = String::new(alloc);
+    named.push_name(&mut name)?;
+    push_shown(alloc, lines, name)?;
+    let id = named.id;
+    let rest = format!(in alloc; " {id}\n")?;
+    lines.push_str(rest.as_str())
 }
 
 /// Appends a line for each name, in order: the name, a space, and the position of its type.
@@ -28,17 +51,16 @@ fn push_shown(alloc: Global, lines: &mut String, name: String) -> Result<(), All
 /// # Errors
 ///
 /// `AllocError` if an allocation fails; the first of the lines may have been appended.
-pub fn push_name_lines(alloc: Global, lines: &mut String, names: &Names) -> Result<(), AllocError> {
+// Which of the names have a line, and in which order, is tested and not proved.
+pub fn push_name_lines(alloc: Global, lines: &mut String, names: &Names) -> Result<(), AllocError>
+    ensures { OnOk result ((text : List ℕ) × AreLines (entries_of names.now) text
+        × (string_bytes lines.new ≡ string_bytes lines.old ++ text)) }
+{
     'names: for position in 0..names.len() {
         let Some(named) = names.get(position) else {
             return Ok(());
         };
-        let mut name = String::new(alloc);
-        named.push_name(&mut name)?;
-        push_shown(alloc, lines, name)?;
-        let id = named.id;
-        let rest = format!(in alloc; " {id}\n")?;
-        lines.push_str(rest.as_str())?;
+        push_line(alloc, lines, named)?;
     }
     Ok(())
 }
