@@ -30,7 +30,8 @@ use Rattle.value_core.specs.Refusals.{suits_fields_of, wanted_of}
 use Rattle.value_core.specs.declared.build_fault.BuildFault.{BuildFault}
 use Rattle.value_core.specs.declared.build_fault.BuildFault.TheVariants as fault
 use Rattle.record_core.specs.Records.{record_head, tree_read}
-use Rattle.record_core.specs.Replayed.{ReadsRecords, ended, ended_at, earlier_fault, judged_node}
+use Rattle.record_core.specs.Replayed.{ReadsRecords, ended, ended_at, earlier_fault, has_only_own}
+use Rattle.record_core.specs.Replayed.{judged_node}
 use Rattle.record_core.specs.Replayed.{own_fault, record_fault, replay, start_with}
 use Rattle.record_core.specs.Replayed.{fault_or_later, with_node, with_record}
 use Rattle.record_core.specs.declared.record.Record.{Record}
@@ -257,7 +258,7 @@ all_shown types pool (r ∷ rs) b0 b e =
     (replay types pool rs (with_record types pool r b0)) b e
     in
     let one = node_added (record_head types pool r) b0
-    (second (own_fault types pool r) _ first.0) in
+    (second (own_fault types pool r) _ (second (in_range (has_only_own r)) _ first.0)) in
     let more = all_shown types pool rs (with_record types pool r b0) b first.1 in
     record {
       shows = more.shows ∙ ap (λ (hs : List Head). hs ++ map (record_head types pool) rs) one.shows

@@ -1,7 +1,7 @@
 -- Records as calls of a builder: what each adds, and why one is rejected.
 use Rattle.std.specs.Prelude.{◌≡◌, ◌⊎◌, ℕ, suc, ◌+◌, ◌^◌, ◌==◌, nat_lt, not, Bool, true}
 use Rattle.std.specs.Prelude.{false, List, [], ◌∷◌, length, Option, Some, None, Result, Ok, Err}
-use Rattle.std.specs.Prelude.{if◌then◌else◌, ◌&&◌}
+use Rattle.std.specs.Prelude.{if◌then◌else◌, ◌&&◌, ◌||◌}
 use Rattle.std.specs.Str.{is_utf8}
 use Rattle.std.specs.Str.Lossy.{utf8_valid_len}
 use Rattle.scale_core.specs.Number.{is_scalar}
@@ -79,9 +79,28 @@ abbrev pub earlier_fault : Option BuildFault → Option BuildFault → Option Bu
 earlier_fault (Some f) later = Some f
 earlier_fault None later = later
 
+abbrev pub kind_fault : List TypeInfo → List ℕ → Record → Built → Option BuildFault
+kind_fault types pool r b =
+    earlier_fault (own_fault types pool r) (judged_node (record_head types pool r) b)
+
+-- the node has neither children nor an arm
+abbrev pub is_leaf : Record → Bool
+is_leaf r = (r.children == 0) && (r.arm == 0)
+
+-- every number is 0 that the kind gives no meaning; `ty` is not judged, nor the `low` of a node
+-- with children, nor a record of no kind
+abbrev pub has_only_own : Record → Bool
+has_only_own r =
+    if r.kind == 0 then is_leaf r && (r.low == 0) && (r.high == 0)
+    else if (r.kind == 1) || (r.kind == 2) || (r.kind == 6) then is_leaf r && (r.high == 0)
+    else if nat_lt r.kind 10 || (r.kind == 13) then is_leaf r
+    else if r.kind == 11 then r.high == 0
+    else if nat_lt r.kind 13 then (r.arm == 0) && (r.high == 0)
+    else true
+
 abbrev pub record_fault : List TypeInfo → List ℕ → Record → Built → Option BuildFault
 record_fault types pool r b =
-    earlier_fault (own_fault types pool r) (judged_node (record_head types pool r) b)
+    earlier_fault (in_range (has_only_own r)) (kind_fault types pool r b)
 
 -- the value with the node
 abbrev pub with_node : Head → Built → Built

@@ -3,6 +3,7 @@
 ghost use Rattle.std.specs.Prelude.{◌≡◌, ◌%◌, ◌/◌, ◌^◌};
 ghost use Rattle.node_core.specs.Shown.{IsInPool, cell_shown};
 ghost use Rattle.record_core.specs.Records.{number_of, record_of};
+ghost use Rattle.record_core.specs.Replayed.{has_only_own, is_leaf};
 
 use node_core::{Content, Node, bit_count, long_at};
 use types_core::TypeId;
@@ -159,5 +160,27 @@ impl Record {
         ensures { result ≡ number_of self.now }
     {
         u128::from(self.low) + HALF * u128::from(self.high)
+    }
+
+    /// Returns whether the node has neither children nor an arm.
+    fn is_leaf(&self) -> bool
+        ensures { result ≡ is_leaf self.now }
+    {
+        self.children == 0 && self.arm == 0
+    }
+
+    /// Returns whether every number is 0 that the kind gives no meaning. Of a kind that there is
+    /// not, no number is looked at.
+    pub(crate) fn has_only_own(&self) -> bool
+        ensures { result ≡ has_only_own self.now }
+    {
+        match self.kind {
+            EMPTY => self.is_leaf() && self.low == 0 && self.high == 0,
+            BOOL | CHAR | COUNT => self.is_leaf() && self.high == 0,
+            UNSIGNED | SIGNED | COMPACT | TEXT | BYTES | WIDE | BITS => self.is_leaf(),
+            FIELDS | LIST => self.arm == 0 && self.high == 0,
+            ARM => self.high == 0,
+            _ => true,
+        }
     }
 }

@@ -15,8 +15,9 @@ ghost use Rattle.graph_core.specs.Types.{shape};
 ghost use Rattle.record_core.specs.Records.{bits_head, pooled_head, range_of, scalar_head};
 ghost use Rattle.record_core.specs.Records.{tree_read, words_len};
 ghost use Rattle.record_core.specs.Replayed.{ReadsRecords, bits_fault, ended, earlier_fault};
-ghost use Rattle.record_core.specs.Replayed.{judged_node, pooled_fault, record_fault, replay};
-ghost use Rattle.record_core.specs.Replayed.{scalar_fault, start_with, with_node, with_record};
+ghost use Rattle.record_core.specs.Replayed.{judged_node, kind_fault, pooled_fault, record_fault};
+ghost use Rattle.record_core.specs.Replayed.{replay, scalar_fault, start_with, with_node};
+ghost use Rattle.record_core.specs.Replayed.{with_record};
 
 use crate::record::{
     ARM, BITS, BOOL, BYTES, CHAR, COMPACT, COUNT, EMPTY, FIELDS, LIST, Record, SIGNED, TEXT,
@@ -189,18 +190,18 @@ fn add_bits<A: Allocator>(
     builder.bits(count, &pool[node.low as usize..node.low as usize + len])
 }
 
-/// Adds the node of a record.
+/// Adds the node of a record, by its kind.
 ///
 /// # Errors
 ///
-/// The fault of the record, and then that of the builder, which is unchanged.
-fn add<A: Allocator>(
+/// The fault of what the kind gives a meaning, and then that of the builder, which is unchanged.
+fn add_kind<A: Allocator>(
     builder: &mut Builder<'_, A>,
     checked: &Checked,
     node: &Record,
     pool: &[u8],
 ) -> Result<(), BuildFault>
-    ensures { Adds (record_fault checked.now.types pool.now node.now builder.old)
+    ensures { Adds (kind_fault checked.now.types pool.now node.now builder.old)
         (with_record checked.now.types pool.now node.now builder.old)
         builder.old builder.new result }
 {
@@ -215,19 +216,42 @@ fn add<A: Allocator>(
     }
 }
 
+/// Adds the node of a record.
+///
+/// # Errors
+///
+/// `OutOfRange` if a number without a meaning is not 0, the fault of another number, and then that
+/// of the builder, which is unchanged.
+fn add<A: Allocator>(
+    builder: &mut Builder<'_, A>,
+    checked: &Checked,
+    node: &Record,
+    pool: &[u8],
+) -> Result<(), BuildFault>
+    ensures { Adds (record_fault checked.now.types pool.now node.now builder.old)
+        (with_record checked.now.types pool.now node.now builder.old)
+        builder.old builder.new result }
+{
+    if !node.has_only_own() {
+        return Err(BuildFault::OutOfRange);
+    }
+    add_kind(builder, checked, node, pool)
+}
+
 /// Builds the value, of the type `root` and within the depth limit, whose nodes the records are,
 /// with their bytes in the pool.
 ///
 /// Of a record, `ty` is read only if the node is a bit sequence, and `low` isn't if it is a
-/// composite, a tuple, a variant or a list. The ranges of two records may overlap.
+/// composite, a tuple, a variant or a list. Every other number that the kind gives no meaning is 0.
+/// The ranges of two records may overlap.
 ///
 /// # Errors
 ///
 /// - `Open` if the registry has no type `root` (`UnknownType`), the depth limit is above 1024
 ///   (`OutOfRange`), or an allocation fails (`OutOfMemory`).
 /// - `Record` with the position of the first record that is rejected, and why. By itself it has a
-///   kind that there is not (`WrongKind`), a number outside the range of its kind, or a range that
-///   isn't in the pool (`OutOfRange`), or a text that is not UTF-8 (`BadText`). Else it is rejected
+///   kind that there is not (`WrongKind`), a number outside the range of its kind, one without a
+///   meaning that isn't 0, or a range that isn't in the pool (`OutOfRange`), or a text that is not UTF-8 (`BadText`). Else it is rejected
 ///   by the builder, as [`Builder::empty`] and the other calls say; a number of children that isn't
 ///   the one of its type is `OutOfRange`.
 /// - `Record` with the number of records, and `UnfinishedValue`, if a node is missing.

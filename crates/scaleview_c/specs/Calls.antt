@@ -164,9 +164,9 @@ IsStarted o id limits (stage.Decoding d) = (opening_fault o.checked.types id lim
 IsStarted o id limits (stage.Complete v) = ⊥
 IsStarted o id limits (stage.Refused e) = ⊥
 
--- a box holds a started session; or the answer says why there is none
+-- a box holds a started session of the registry; or the answer says why there is none
 abbrev pub IsSession : Opened → ℕ → Limits → Resource → Type 0
-IsSession o id limits (held.Session s) = IsStarted o id limits s.stage
+IsSession o id limits (held.Session s) = IsStarted o id limits s.stage × (s.registry.now ≡ o)
 IsSession o id limits (held.Registry other) = ⊥
 
 abbrev pub StartsBox : {X : Type 0} → (X → Resource) → Opened → ℕ → Limits →
@@ -178,8 +178,7 @@ StartsBox value_of o id limits (Err e) =
 -- a started session is behind the handle; or nothing is, and the answer says why
 abbrev pub StartsSession : Option Resource → ℕ → Limits → Option Resource → Answer → Type 0
 StartsSession (Some (held.Registry o)) id limits (Some (held.Session s)) a =
-    IsStarted o id limits s.stage
-    × (a ≡ plain 0)
+    IsStarted o id limits s.stage × (s.registry.now ≡ o) × (a ≡ plain 0)
 StartsSession (Some (held.Registry o)) id limits (Some (held.Registry other)) a = ⊥
 StartsSession (Some (held.Registry o)) id limits None a =
     ForbidsStart (opening_fault o.checked.types id limits) a

@@ -21,6 +21,13 @@ Lends counts before o after = (n : ℕ) × counts before o n
 abbrev pub TakesBack : {K : Type 0} → Counts K → K → Opened → K → Type 0
 TakesBack counts before o after = (n : ℕ) × counts before o n × counts after o (n - 1)
 
+-- a registry that was opened has no session; otherwise nothing changes
+abbrev pub CountsOpen : {K : Type 0} → Counts K → K → Option Resource → Option Resource → K → Type 0
+CountsOpen counts before None (Some (held.Registry o)) after = counts after o 0
+CountsOpen counts before None (Some (held.Session s)) after = ⊥
+CountsOpen counts before None None after = after ≡ before
+CountsOpen counts before (Some old) new after = after ≡ before
+
 -- a session that was started is counted; otherwise nothing changes
 abbrev pub CountsStart : {K : Type 0} → Counts K → K → Option Resource → Option Resource →
     Option Resource →

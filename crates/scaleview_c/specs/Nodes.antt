@@ -8,6 +8,7 @@ use Rattle.limits_core.specs.declared.limits.Limits.{Limits}
 use Rattle.node_core.specs.Encoding.{IsEncoding}
 use Rattle.node_core.specs.Shown.{Seen}
 use Rattle.value_core.specs.Refusals.{build_opening_fault}
+use Rattle.value_core.specs.declared.build_fault.BuildFault.{BuildFault}
 use Rattle.decode_core.specs.Decoding.{opening_fault}
 use Rattle.decode_core.specs.Streaming.{query_of}
 use Rattle.record_core.specs.Records.{nodes_of, pool_of, tree_read}
@@ -15,6 +16,7 @@ use Rattle.record_core.specs.Replayed.{ReadsRecords, ended, replay, start_with}
 use Rattle.record_core.specs.Written.{WritesNodes}
 use Rattle.record_core.specs.declared.record.Record.{Record}
 use Rattle.record_core.specs.declared.replaying.RecordFault.{RecordFault}
+use Rattle.record_core.specs.declared.replaying.RecordFault.TheVariants as records
 use Rattle.scale_calls.specs.Values.{ReadsValue}
 use Rattle.scale_calls.specs.declared.refusal.ValueRefusal.{ValueRefusal}
 use Rattle.scaleview_c.specs.Calls.{Ends, Leaves, Writes}
@@ -117,11 +119,22 @@ WritesSpelling wanted (Ok v) old new a = (v ≡ wanted)
 WritesSpelling wanted (Err e) old new a = Leaves old new (records_answer e) a
 
 -- the same for the value of the records, unless an allocation failed
-abbrev pub Encodes : List TypeInfo → ℕ → ℕ → List Record → List ℕ → List ℕ → List ℕ → Answer →
-    Type 0
-Encodes types id depth records pool old new a = Leaves old new (plain 3) a
+abbrev pub EncodesRecords : List TypeInfo → ℕ → ℕ → List Record → List ℕ → List ℕ → List ℕ →
+    Answer → Type 0
+EncodesRecords types id depth records pool old new a = Leaves old new (plain 3) a
     ⊎ ((r : Result Seen RecordFault) × ReadsNodes types id depth records pool r
     × WritesSpelling (value_of types id records pool) r old new a)
+
+-- no value can be begun, whatever memory there is; or the records are read
+abbrev pub EncodesUnless : Option BuildFault → Type 0 → List ℕ → List ℕ → Answer → Type 0
+EncodesUnless (Some f) reads old new a = Leaves old new (records_answer (records.Open f)) a
+EncodesUnless None reads old new a = reads
+
+abbrev pub Encodes : List TypeInfo → ℕ → ℕ → List Record → List ℕ → List ℕ → List ℕ → Answer →
+    Type 0
+Encodes types id depth records pool old new a =
+    EncodesUnless (build_opening_fault types id depth)
+    (EncodesRecords types id depth records pool old new a) old new a
 
 abbrev pub EncodesNodes : Option Resource → ℕ → ℕ → List Record → List ℕ → List ℕ → List ℕ →
     Answer → Type 0

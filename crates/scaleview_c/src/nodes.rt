@@ -2,6 +2,7 @@
 
 ghost use Rattle.std.specs.Prelude.{◌≡◌, IfOk};
 ghost use Rattle.node_core.specs.Encoding.{IsEncoding};
+ghost use Rattle.value_core.specs.Refusals.{build_opening_fault};
 ghost use Rattle.scaleview_c.specs.Nodes.{DecodesNodes, Encodes, EncodesNodes};
 ghost use Rattle.scaleview_c.specs.Nodes.{FinishesNodes, PutsNodes, PutsStage, WritesValueNodes};
 
@@ -13,13 +14,13 @@ use crate::resource::Resource;
 use crate::session::Stage;
 use crate::text::put;
 use budget_core::Budget;
-use record_core::{Record, value_of_records, write_records};
+use record_core::{Record, RecordFault, value_of_records, write_records};
 use registry_core::TypeId;
 use scale_calls::{ValueRefusal, read_value};
 use scale_core::Sink;
 use std::alloc::{AllocError, Global};
 use std::mem;
-use value_core::{Limits, Value, encode};
+use value_core::{BuildFault, Limits, Value, encode};
 
 /// Writes the records of a value and their pool to the front of the caller's memory, if both fit.
 fn put_nodes(value: &Value<'_, Budget<Global>>, nodes: &mut [Record], pool: &mut [u8]) -> Answer
@@ -152,18 +153,39 @@ fn bytes_of(
     }
 }
 
+/// Returns why no value of a type can be begun. It allocates nothing.
+fn opening_fault(opened: &Opened, id: u32, depth: u16) -> Option<BuildFault>
+    ensures { result ≡ build_opening_fault opened.now.checked.types id depth }
+{
+    if opened.checked.class(TypeId(id)).is_none() {
+        return Some(BuildFault::UnknownType);
+    }
+    if depth > 1024 {
+        return Some(BuildFault::OutOfRange);
+    }
+    None
+}
+
 /// Writes the bytes that spell the value whose nodes these records are, with this budget of memory.
 fn write_encoded(
-    budget: Budget<Global>,
+    alloc: Global,
     opened: &Opened,
     id: u32,
     depth: u16,
+    memory: u64,
     nodes: &[Record],
     pool: &[u8],
     out: &mut [u8],
 ) -> Answer
     ensures { Encodes opened.now.checked.types id depth nodes.now pool.now out.old out.new result }
 {
+    // An unknown type and a limit out of range are reported whatever memory there is.
+    if let Some(fault) = opening_fault(opened, id, depth) {
+        return Answer::of_records(RecordFault::Open(fault));
+    }
+    let Ok(budget) = Budget::new(alloc, memory) else {
+        return Answer::plain(MEMORY);
+    };
     let Ok(value_alloc) = budget.clone() else {
         return Answer::plain(MEMORY);
     };
@@ -201,10 +223,9 @@ pub extern "C" fn scaleview_encode_nodes(
     ensures code { result ≡ answer.new.code }
 {
     *answer = match registry.get() {
-        Some(Resource::Registry(opened)) => match Budget::new(alloc, memory) {
-            Ok(budget) => write_encoded(budget, opened, id, depth, nodes, pool, out),
-            Err(_) => Answer::plain(MEMORY),
-        },
+        Some(Resource::Registry(opened)) => {
+            write_encoded(alloc, opened, id, depth, memory, nodes, pool, out)
+        }
         Some(Resource::Session(_)) | None => Answer::plain(NO_HANDLE),
     };
     answer.code

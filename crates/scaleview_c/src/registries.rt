@@ -4,7 +4,7 @@ ghost use Rattle.std.specs.Prelude.{◌≡◌, None, Some};
 ghost use Rattle.scaleview_c.specs.Calls.{ClosesRegistry, OpensBox, OpensBytes, OpensHandle};
 ghost use Rattle.scaleview_c.specs.Calls.{OpensMetadata, OpensRegistry, ReportsTypes, WritesJson};
 ghost use Rattle.scaleview_c.specs.Calls.{WritesLine, WritesValue, options_of, reads_names};
-ghost use Rattle.scaleview_c.specs.Kept.{GivesRegistry};
+ghost use Rattle.scaleview_c.specs.Kept.{CountsOpen, GivesRegistry};
 
 use crate::codes::{Answer, MEMORY, NO_HANDLE, OK, TAKEN, UNKNOWN_TYPE};
 use crate::handle::{Handle, handle_of, held_by};
@@ -95,6 +95,34 @@ fn open_bytes(alloc: Global, flags: u32, bytes: &[u8]) -> Result<(Box<Resource>,
     }
 }
 
+/// Opens the bytes as flags say, behind a null handle, as a registry without sessions.
+pub fn open_in<K: Keeper>(
+    alloc: Global,
+    keeper: &mut K,
+    flags: u32,
+    bytes: &[u8],
+    registry: &mut Handle,
+) -> Answer
+    ensures opened { OpensHandle registry.old.value flags bytes.now registry.new.value result }
+    ensures counted { CountsOpen K.counts keeper.old registry.old.value registry.new.value
+        keeper.new }
+{
+    if let Some(held) = held_by(alloc, mem::replace(registry, Handle::none())) {
+        *registry = handle_of(held);
+        return Answer::plain(TAKEN);
+    }
+    match open_bytes(alloc, flags, bytes) {
+        Ok((held, answer)) => {
+            if let Resource::Registry(opened) = &*held {
+                keeper.set_count(opened, 0);
+            }
+            *registry = handle_of(held);
+            answer
+        }
+        Err(answer) => answer,
+    }
+}
+
 /// Opens the registry that the bytes hold, behind a null handle.
 ///
 /// In `flags`, bit 0 is 1 if the registry is in metadata, and bit 2 if bit sequences are read. With
@@ -110,18 +138,7 @@ pub extern "C" fn scaleview_open(
     ensures opened { OpensHandle registry.old.value flags bytes.now registry.new.value answer.new }
     ensures code { result ≡ answer.new.code }
 {
-    if let Some(held) = held_by(alloc, mem::replace(registry, Handle::none())) {
-        *registry = handle_of(held);
-        *answer = Answer::plain(TAKEN);
-        return TAKEN;
-    }
-    match open_bytes(alloc, flags, bytes) {
-        Ok((held, opened)) => {
-            *registry = handle_of(held);
-            *answer = opened;
-        }
-        Err(refused) => *answer = refused,
-    }
+    *answer = open_in(alloc, &mut Heap {}, flags, bytes, registry);
     answer.code
 }
 
