@@ -135,9 +135,13 @@ static void check_names(void) {
                  {SCALEVIEW_REGISTRY_TRUNCATED, "Truncated"},
                  {SCALEVIEW_REGISTRY_COMPACT_NOT_SHORTEST, "CompactNotShortest"},
                  {SCALEVIEW_REGISTRY_UNKNOWN_REFERENCE, "UnknownType"},
-                 {SCALEVIEW_REGISTRY_UNKNOWN_REFERENCE + 1, ""},
+                 {SCALEVIEW_METADATA_UNKNOWN_REFERENCE, "UnknownReference"},
+                 {SCALEVIEW_METADATA_UNKNOWN_REFERENCE + 1, ""},
                  {SCALEVIEW_UNKNOWN_TYPE, "UnknownType"},
                  {SCALEVIEW_LIMIT_OUT_OF_RANGE, "LimitOutOfRange"},
+                 {SCALEVIEW_UNKNOWN_NAME, "UnknownName"},
+                 {SCALEVIEW_NO_BYTES, "NoBytes"},
+                 {SCALEVIEW_NO_BYTES + 1, ""},
                  {SCALEVIEW_VALUE_BAD_CHAR, "BadChar"},
                  {SCALEVIEW_VALUE_TRAILING_BYTES, "TrailingBytes"},
                  {SCALEVIEW_VALUE_UNUSED_BITS, "UnusedBits"},
@@ -324,7 +328,8 @@ static void check_numbers(void) {
     check("answers", SCALEVIEW_OK == 0 && SCALEVIEW_MORE == 1 && SCALEVIEW_NO_ROOM == 2 && SCALEVIEW_MEMORY == 3 &&
                          SCALEVIEW_LENT == 4 && SCALEVIEW_NO_HANDLE == 5 && SCALEVIEW_TAKEN == 6);
     check("types and limits", SCALEVIEW_UNKNOWN_TYPE == 201 && SCALEVIEW_LIMIT_OUT_OF_RANGE == 202);
-    check("flags", SCALEVIEW_METADATA == true && SCALEVIEW_BITS == 4);
+    check("names", SCALEVIEW_UNKNOWN_NAME == 204 && SCALEVIEW_NO_BYTES == 205);
+    check("flags", SCALEVIEW_METADATA == true && SCALEVIEW_NAMES == 2 && SCALEVIEW_BITS == 4);
     check("the last kind of nodes", SCALEVIEW_NODE_BITS == 13);
     const uint32_t of_registries[] = {
         SCALEVIEW_REGISTRY_TRUNCATED,
@@ -339,6 +344,7 @@ static void check_numbers(void) {
         SCALEVIEW_REGISTRY_WRONG_VERSION,
         SCALEVIEW_REGISTRY_TRAILING_BYTES,
         SCALEVIEW_REGISTRY_UNKNOWN_REFERENCE,
+        SCALEVIEW_METADATA_UNKNOWN_REFERENCE,
     };
     for (uint32_t i = 0; i < sizeof of_registries / sizeof *of_registries; i++) {
         check("a name of a registry's refusal", of_registries[i] == 101 + i);
@@ -498,7 +504,7 @@ static void check_bits_encoded(scaleview_registry registry) {
 /* Bits are read by the flag, whatever else the flags are, and otherwise rejected; the types are the same. */
 static void check_bits(void) {
     static const scaleview_type_shape wanted = {SCALEVIEW_BIT_SEQUENCE, SCALEVIEW_SIZED, 0, 1, 2, 0, 0};
-    static const uint32_t flags[] = {0, SCALEVIEW_BITS, 0xfffffff8, 0xfffffff8 | SCALEVIEW_BITS};
+    static const uint32_t flags[] = {0, SCALEVIEW_BITS, 0xfffffffa, 0xfffffffa | SCALEVIEW_BITS};
     for (size_t i = 0; i < sizeof flags / sizeof *flags; i++) {
         bool are_read = flags[i] & SCALEVIEW_BITS;
         scaleview_registry registry = {NULL};
@@ -607,7 +613,7 @@ static void check_null_session(scaleview_registry registry, uint32_t type, size_
 static void check_null(void) {
     scaleview_registry registry = {NULL};
     scaleview_answer answer;
-    for (uint32_t flags = 0; flags <= (SCALEVIEW_METADATA | SCALEVIEW_BITS); flags++) {
+    for (uint32_t flags = 0; flags <= (SCALEVIEW_METADATA | SCALEVIEW_NAMES | SCALEVIEW_BITS); flags++) {
         scaleview_open(NULL, 0, flags, &registry, &answer);
         check("no registry", is_answer(answer, SCALEVIEW_REGISTRY_TRUNCATED, 0, 0) && !registry.inside);
     }

@@ -1,6 +1,7 @@
 /* Refuses each request for memory of a run in turn: memory REGISTRY ID VALUE. The call that makes it says so, a text that
- * found no memory comes by another call, and when all is freed no block is left. It is linked so that the library's requests
- * come here (--wrap). */
+ * found no memory comes by another call, and when all is freed no block is left. A second run opens a chain with its names. It
+ * is linked so that the library's requests come here (--wrap). */
+#include "chain_bytes.h"
 #include "scaleview.h"
 #include <stdio.h>
 #include <stdlib.h>
@@ -42,6 +43,8 @@ static void check(const char *what, bool is_so, long request) {
 
 static uint8_t bytes[2][1 << 16], out[1 << 20], pool[1 << 20];
 static scaleview_node nodes[1 << 16];
+static size_t registry_length, length;
+static uint32_t type;
 
 static size_t read_file(const char *path, uint8_t *to) {
     FILE *file = fopen(path, "rb");
@@ -49,15 +52,15 @@ static size_t read_file(const char *path, uint8_t *to) {
         perror(path);
         exit(3);
     }
-    size_t length = fread(to, 1, sizeof bytes[0], file);
+    size_t taken = fread(to, 1, sizeof bytes[0], file);
     fclose(file);
-    return length;
+    return taken;
 }
 
 static bool is_answer(uint32_t code) { return code == SCALEVIEW_OK || code == SCALEVIEW_MORE || code == SCALEVIEW_MEMORY; }
 
 /* A value by one call and in pieces. Says how many calls wanted memory. */
-static int run(size_t registry_length, uint32_t type, size_t length, long request) {
+static int run(long request) {
     scaleview_registry registry = {NULL};
     scaleview_session session = {NULL};
     scaleview_answer answer;
@@ -107,14 +110,29 @@ static int run(size_t registry_length, uint32_t type, size_t length, long reques
     return wants + wanted;
 }
 
-int main(int count, char **words) {
-    if (count != 4) return 2;
-    size_t registry_length = read_file(words[1], bytes[0]), length = read_file(words[3], bytes[1]);
-    uint32_t type = (uint32_t)strtoul(words[2], NULL, 10);
+/* A chain with its names, which are asked for without memory. Says how many calls wanted memory. */
+static int run_names(long request) {
+    static const uint8_t name[] = "custom:Owner";
+    scaleview_registry registry = {NULL};
+    scaleview_answer answer;
+    uint32_t flags = SCALEVIEW_METADATA | SCALEVIEW_NAMES;
+    uint32_t code = scaleview_open(chain_bytes, sizeof chain_bytes, flags, &registry, &answer);
+    check("opened or not", code == (registry.inside ? SCALEVIEW_OK : SCALEVIEW_MEMORY), request);
+    if (code != SCALEVIEW_OK) return code == SCALEVIEW_MEMORY;
+    check("a name", scaleview_name(registry, name, sizeof name - 1, &answer) == SCALEVIEW_OK, request);
+    code = scaleview_name_bytes(registry, name, sizeof name - 1, out, sizeof out, &answer);
+    check("its bytes", code == SCALEVIEW_OK, request);
+    check("a name by its index", scaleview_name_at(registry, 0, out, sizeof out, &answer) == SCALEVIEW_OK, request);
+    check("closed", scaleview_close(&registry) == SCALEVIEW_OK, request);
+    return 0;
+}
+
+/* Makes this run until none of its requests is left to be refused. */
+static void refuse_in_turn(int (*run_once)(long request)) {
     int wants = 0;
     for (long request = 0;; request++) {
         before = request;
-        int now = run(registry_length, type, length, request);
+        int now = run_once(request);
         bool is_last = before >= 0;
         check("one call at most wants memory", now <= 1, request);
         check("nothing is refused, so nothing is wanted", !is_last || now == 0, request);
@@ -123,5 +141,14 @@ int main(int count, char **words) {
         if (is_last || failures > 0) break;
     }
     check("memory was wanted", wants > 0, -1);
+}
+
+int main(int count, char **words) {
+    if (count != 4) return 2;
+    registry_length = read_file(words[1], bytes[0]);
+    type = (uint32_t)strtoul(words[2], NULL, 10);
+    length = read_file(words[3], bytes[1]);
+    refuse_in_turn(run);
+    refuse_in_turn(run_names);
     return failures > 0;
 }

@@ -9,8 +9,9 @@
  * - A handle is null or was set by a call. A null handle, or one of the other kind, is answered by SCALEVIEW_NO_HANDLE. A
  *   copy of a closed or freed handle can't be recognised, and must not be used.
  * - A handle may be used on any thread. scaleview_types, scaleview_type_line, scaleview_type, scaleview_part, scaleview_arm,
- *   scaleview_arm_field, scaleview_path, scaleview_find, scaleview_decode, scaleview_decode_nodes and scaleview_encode_nodes
- *   only read a registry: any number of threads may make them on one registry at the same time.
+ *   scaleview_arm_field, scaleview_path, scaleview_find, scaleview_name, scaleview_name_at, scaleview_name_bytes,
+ *   scaleview_decode, scaleview_decode_nodes and scaleview_encode_nodes only read a registry: any number of threads may make
+ *   them on one registry at the same time.
  * - A session is used by one call at a time. scaleview_feed, scaleview_taken, scaleview_nodes, scaleview_text_bytes,
  *   scaleview_finish and scaleview_finish_nodes change that session alone, so other calls on its registry and on other
  *   sessions may run at the same time.
@@ -59,11 +60,16 @@ enum scaleview_code {
     SCALEVIEW_REGISTRY_TRAILING_BYTES = 111,    /* bytes follow the registry, which ends at `at` */
     SCALEVIEW_REGISTRY_UNKNOWN_REFERENCE = 112, /* the type `from` refers to the type `at`, which does not exist */
 
+    /* What follows the registry in metadata refers, at the place `at`, to the type `from`, which does not exist. */
+    SCALEVIEW_METADATA_UNKNOWN_REFERENCE = 113,
+
     SCALEVIEW_UNKNOWN_TYPE = 201,       /* the registry has no type at this position */
     SCALEVIEW_LIMIT_OUT_OF_RANGE = 202, /* a limit is above 1024 for the depth, or above 2^40 for the bytes */
     SCALEVIEW_UNKNOWN_PART = 203,       /* the type has no such field, member or arm */
+    SCALEVIEW_UNKNOWN_NAME = 204,       /* the metadata has no such name */
+    SCALEVIEW_NO_BYTES = 205,           /* the metadata has no bytes for the name */
 
-    /* The value's bytes are rejected, at `at`. */
+    /* The value's bytes are rejected, at `at`; or, by scaleview_open, what follows the registry in metadata. */
     SCALEVIEW_VALUE_TRUNCATED = 301,
     SCALEVIEW_VALUE_BAD_BOOL = 302,
     SCALEVIEW_VALUE_BAD_CHAR = 303,
@@ -95,6 +101,7 @@ enum scaleview_code {
 /* How scaleview_open opens a registry: 0, or these joined by `|`. Other bits are ignored. */
 enum scaleview_flag {
     SCALEVIEW_METADATA = 1, /* the bytes are a chain's metadata, version 14 or 15, which begins with the registry */
+    SCALEVIEW_NAMES = 2,    /* the names that the metadata gives to types are read as well */
     SCALEVIEW_BITS = 4      /* values of bit sequences are read, where the store and the order are known */
 };
 
@@ -186,12 +193,13 @@ typedef struct scaleview_node {
 /* What a call reports besides its code, which is repeated here. Numbers are 0 unless the code gives them a meaning. */
 typedef struct scaleview_answer {
     uint32_t code;
-    uint32_t from;   /* the position of the type that has the unknown reference; the version of an open registry's metadata;
-                      * the type of a part; or the index of an arm */
-    uint64_t at;     /* the place of an error, or where an open registry ends, in bytes from the start of the input; 1 if a
-                      * part has a name; the number of an arm's fields; the position of a type or of a node; or the number of
-                      * bytes of a pool */
-    uint64_t length; /* the number of bytes of a text, of types, of nodes, or of bytes of a piece that belong to the value */
+    uint32_t from;   /* the position of the type that has the unknown reference, or that metadata refers to; the version of an
+                      * open registry's metadata; the type of a part or of a name; or the index of an arm */
+    uint64_t at;     /* the place of an error, or where an open registry ends or an opaque value begins, in bytes from the
+                      * start of the input; 1 if a part has a name or a name has bytes; the number of an arm's fields; the
+                      * position of a type or of a node; or the number of bytes of a pool */
+    uint64_t length; /* the number of bytes of a text, of a name's bytes, of an opaque value, of types, of nodes, or of bytes of
+                      * a piece that belong to the value */
 } scaleview_answer;
 
 /* An open registry, or null: `inside` is NULL, as after `= {NULL}` and after scaleview_close. It may be copied. All copies
@@ -206,16 +214,28 @@ typedef struct scaleview_session {
 } scaleview_session;
 
 /* Opens the registry that all the bytes hold. `flags` is 0, or of enum scaleview_flag. With SCALEVIEW_METADATA the bytes are a
- * chain's metadata, version 14 or 15, which begins with the registry; what follows it is not read. The bytes are not kept.
+ * chain's metadata, version 14 or 15, which begins with the registry; what follows it is only read with SCALEVIEW_NAMES. The
+ * bytes are not kept.
+ *
+ * With both, all of the metadata is read, and it has to end with the bytes. The registry then has its own types and, after
+ * them, synthetic ones: those of extrinsics, of storage keys and of the parameters of runtime calls, and the few small types
+ * that these need. Its own types never refer to synthetic ones. scaleview_name and the calls after it ask for the names.
+ * Without SCALEVIEW_METADATA the flag SCALEVIEW_NAMES is ignored.
  *
  * With SCALEVIEW_BITS, values of a bit sequence are read if its store is the primitive u8, u16, u32 or u64 itself, and its
  * order is a composite without fields, with a path that ends with Lsb0 or Msb0. Values of all others, and of every bit sequence
  * without the flag, are rejected with SCALEVIEW_VALUE_BIT_SEQUENCE. The calls that describe types report the same either way.
  *
  * `registry` must be null, or the call returns SCALEVIEW_TAKEN. After SCALEVIEW_OK it is a registry that the caller closes;
- * `answer->length` is its number of types, `answer->at` is where it ends, and `answer->from` is the version of the metadata,
- * or 0 without SCALEVIEW_METADATA. Otherwise the call returns SCALEVIEW_MEMORY or a code of
- * SCALEVIEW_REGISTRY_*, and `registry` stays null. */
+ * `answer->length` is its number of types, synthetic ones included, `answer->at` is where its own bytes end, and
+ * `answer->from` is the version of the metadata, or 0 without SCALEVIEW_METADATA. Otherwise the call returns SCALEVIEW_MEMORY
+ * or a code of SCALEVIEW_REGISTRY_*, and `registry` stays null.
+ *
+ * With the names, errors are looked for in this order: those of the registry's bytes; those of what follows it, which are
+ * SCALEVIEW_VALUE_TRUNCATED, _BAD_UTF8, _COMPACT_NOT_SHORTEST, _COMPACT_TOO_LARGE, _NO_SUCH_VARIANT and, above 2^28 bytes,
+ * _TOO_LONG; SCALEVIEW_REGISTRY_TRAILING_BYTES if bytes follow the metadata, which ends at `at`;
+ * SCALEVIEW_METADATA_UNKNOWN_REFERENCE; and SCALEVIEW_REGISTRY_UNKNOWN_REFERENCE. All places count from the first byte of the
+ * metadata. */
 uint32_t scaleview_open(const uint8_t *bytes, size_t length, uint32_t flags, scaleview_registry *registry,
                         scaleview_answer *answer);
 
@@ -223,8 +243,8 @@ uint32_t scaleview_open(const uint8_t *bytes, size_t length, uint32_t flags, sca
  * SCALEVIEW_LENT and changes nothing: free the sessions first, in any order. Otherwise it returns SCALEVIEW_NO_HANDLE. */
 uint32_t scaleview_close(scaleview_registry *registry);
 
-/* Reports the number of types of a registry in `answer->length`; their positions are below that. Otherwise it returns
- * SCALEVIEW_NO_HANDLE. */
+/* Reports the number of types of a registry, synthetic ones included, in `answer->length`; their positions are below that.
+ * Otherwise it returns SCALEVIEW_NO_HANDLE. */
 uint32_t scaleview_types(scaleview_registry registry, scaleview_answer *answer);
 
 /* Writes the line of the registry's type at this position to the front of `out`: its position, class, kind and path,
@@ -278,6 +298,50 @@ uint32_t scaleview_path(scaleview_registry registry, uint32_t type, uint8_t *out
  * type that has none. Otherwise it returns SCALEVIEW_UNKNOWN_TYPE or SCALEVIEW_NO_HANDLE. */
 uint32_t scaleview_find(scaleview_registry registry, uint32_t from, const uint8_t *path, size_t length,
                         scaleview_answer *answer);
+
+/* Finds the name that these bytes are, such as "storage:System.Account", and reports the position of its type in
+ * `answer->from`. `answer->at` is 1 if the metadata has bytes for it and otherwise 0, and `answer->length` is the number of
+ * those bytes. Names are compared byte by byte and as a whole. The time is linear in the number of names times `length`.
+ *
+ * With P a pallet, E a storage entry, C a constant, A a runtime API, M a method and X a custom value, each as it stands in the
+ * metadata, the names and their types are
+ *
+ * - extrinsic: the synthetic type of extrinsics; scaleview_opaque reads the length in front of them;
+ * - call, event, error: the outer enums;
+ * - calls:P, events:P, errors:P: those of a pallet;
+ * - storage:P.E, key:P.E: the value of a storage entry, and the synthetic type of its keys;
+ * - constant:P.C, custom:X: that of the constant or of the custom value;
+ * - result:A.M, params:A.M: a method's output, and the synthetic type of its inputs, a composite.
+ *
+ * A constant and a custom value have bytes, and so has a storage entry whose absent values have a default.
+ *
+ * Otherwise it returns SCALEVIEW_UNKNOWN_NAME or SCALEVIEW_NO_HANDLE. A registry that was opened without SCALEVIEW_NAMES has
+ * no names. */
+uint32_t scaleview_name(scaleview_registry registry, const uint8_t *name, size_t length, scaleview_answer *answer);
+
+/* Writes the name at this index to the front of `out`: UTF-8 of `answer->length` bytes, without a terminating 0. Indices are
+ * from 0 on in the order of the command's `names`, where each name stands once. `answer->from` is the position of its type,
+ * and `answer->at` is 1 if the metadata has bytes for it and otherwise 0.
+ *
+ * After SCALEVIEW_NO_ROOM the numbers are the same, and `out` is unchanged. Otherwise the call returns SCALEVIEW_UNKNOWN_NAME
+ * if there are no more names, or SCALEVIEW_NO_HANDLE, and `out` is unchanged. */
+uint32_t scaleview_name_at(scaleview_registry registry, uint32_t index, uint8_t *out, size_t room, scaleview_answer *answer);
+
+/* Writes the bytes that the metadata has for a name to the front of `out`: `answer->length` bytes. They are the value of a
+ * constant or a custom value, or the default of a storage entry, and are not looked at before they are decoded.
+ *
+ * Otherwise it returns SCALEVIEW_NO_ROOM with the same length, SCALEVIEW_UNKNOWN_NAME, SCALEVIEW_NO_BYTES or
+ * SCALEVIEW_NO_HANDLE, and `out` is unchanged. */
+uint32_t scaleview_name_bytes(scaleview_registry registry, const uint8_t *name, size_t length, uint8_t *out, size_t room,
+                              scaleview_answer *answer);
+
+/* Reads the length in front of an opaque value, as an extrinsic in a block is: `answer->at` is where the value begins, and
+ * `answer->length` is its number of bytes, which end with the input. It needs no registry. The value itself is not read: a
+ * call that decodes it, from `bytes + answer->at` on, counts places from there, and the caller adds `answer->at`.
+ *
+ * Otherwise it returns SCALEVIEW_VALUE_COMPACT_TOO_LARGE, SCALEVIEW_VALUE_COMPACT_NOT_SHORTEST, SCALEVIEW_VALUE_TRUNCATED at
+ * the end of the input, or SCALEVIEW_VALUE_TRAILING_BYTES at the end of the bytes that the length counts. */
+uint32_t scaleview_opaque(const uint8_t *bytes, size_t length, scaleview_answer *answer);
 
 /* Decodes the value, of the type at this position, that all the bytes spell, and writes its JSON to the front of `out`: UTF-8
  * of `answer->length` bytes, without a terminating 0. The value has at most `limit` bytes, up to 2^40, and no part of it is

@@ -153,7 +153,6 @@ static void check_name(void) {
     uint8_t out[16];
     check("a code's name", scaleview_reason(SCALEVIEW_UNKNOWN_PART, out, sizeof out, &answer) == SCALEVIEW_OK);
     check("its bytes", SCALEVIEW_UNKNOWN_PART == 203 && answer.length == 11 && !memcmp(out, "UnknownPart", 11));
-    check("the next has none", scaleview_reason(204, out, sizeof out, &answer) == SCALEVIEW_OK && answer.length == 0);
 }
 
 int main(void) {
