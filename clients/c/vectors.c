@@ -1,8 +1,9 @@
 /* Checks the tables of test vectors: each registry's answer and type lines, and each value whole and in pieces of 1, 7 and
- * 4096 bytes, with what a session holds, as nodes by one call and by a session, and back from its nodes. The values of the
- * last table are read with bits.
+ * 4096 bytes, with what a session holds, as nodes by one call and by a session, and back from its nodes. The values of
+ * bits.tsv are read with bits. Of chain.tsv it takes the command lines that list names, and those that decode by a name with
+ * no other options than --opaque, --bits, --depth and --bytes.
  *
- *   vectors registries.tsv values.tsv bits.tsv
+ *   vectors registries.tsv values.tsv bits.tsv metadata.tsv chain.tsv
  */
 #include "node_json.h"
 #include "scaleview.h"
@@ -12,7 +13,7 @@
 
 enum { COLUMNS = 11, TEXT_ROOM = 1 << 20, NODE_ROOM = 1 << 16 };
 
-static unsigned rows = 0, ways = 0, wrong = 0;
+static unsigned rows = 0, ways = 0, wrong = 0, lines = 0, used_lines = 0;
 
 /* A column, which is not ended by a 0. */
 struct text {
@@ -96,7 +97,9 @@ static struct text told(scaleview_answer answer, char line[128]) {
     int length = (int)named.length;
     if (code == SCALEVIEW_REGISTRY_UNKNOWN_REFERENCE)
         snprintf(line, 128, "%.*s %llu in type %u", length, name, at, answer.from);
-    else if (code == SCALEVIEW_UNKNOWN_TYPE || code == SCALEVIEW_LIMIT_OUT_OF_RANGE)
+    else if (code == SCALEVIEW_METADATA_UNKNOWN_REFERENCE)
+        snprintf(line, 128, "%.*s to type %u at %llu", length, name, answer.from, at);
+    else if (code >= SCALEVIEW_UNKNOWN_TYPE && code < SCALEVIEW_VALUE_TRUNCATED)
         snprintf(line, 128, "%.*s", length, name);
     else if (code >= SCALEVIEW_REGISTRY_TRUNCATED && length)
         snprintf(line, 128, "%.*s at %llu", length, name, at);
@@ -343,13 +346,13 @@ static scaleview_registry registry_of(struct text column, uint32_t flags) {
     return registry;
 }
 
-/* The registry of that name, which the caller closes. */
-static scaleview_registry registry_named(struct text table, struct text name) {
+/* A column of the row of that name. */
+static struct text column_named(struct text table, struct text name, int column) {
     struct text row[COLUMNS];
     while (next_row(&table, row)) {
-        if (equal(row[0], name)) return registry_of(row[2], 0);
+        if (equal(row[0], name)) return row[column];
     }
-    return (scaleview_registry){NULL};
+    return text_of("-");
 }
 
 /* Checks a value's row, and closes its registry. */
@@ -384,26 +387,195 @@ static void check_types(struct text row[COLUMNS], uint8_t *out) {
     scaleview_close(&with);
 }
 
+static uint64_t types_of(scaleview_registry registry) {
+    scaleview_answer answer;
+    return scaleview_types(registry, &answer) == SCALEVIEW_OK ? answer.length : 0;
+}
+
+/* Opens metadata with its names, which the caller closes. If it is rejected, `line` is what the command says. */
+static scaleview_registry open_names(struct text column, uint32_t flags, char line[160]) {
+    char reason[128];
+    scaleview_registry registry = {NULL};
+    scaleview_answer answer;
+    size_t length;
+    uint8_t *bytes = bytes_of(column, &length);
+    scaleview_open(bytes, length, SCALEVIEW_METADATA | SCALEVIEW_NAMES | flags, &registry, &answer);
+    free(bytes);
+    const char *part = answer.code == SCALEVIEW_REGISTRY_UNKNOWN_REFERENCE ? "check" : "registry";
+    if (answer.code != SCALEVIEW_OK) snprintf(line, 160, "%s: %s", part, told(answer, reason).at);
+    return registry;
+}
+
+/* How many types the registry has by itself, how many with the synthetic ones, and how many names there are. */
+static void check_metadata(struct text row[COLUMNS]) {
+    char found[160];
+    scaleview_registry with = open_names(row[1], 0, found);
+    rows++;
+    if (with.inside) {
+        scaleview_registry without = registry_of(row[1], SCALEVIEW_METADATA);
+        unsigned long long own = types_of(without), all = types_of(with);
+        scaleview_answer answer;
+        uint32_t names = 0;
+        while (scaleview_name_at(with, names, NULL, 0, &answer) == SCALEVIEW_NO_ROOM) names++;
+        snprintf(found, sizeof found, "%llu %llu %u", own, all, names);
+        scaleview_close(&without);
+        scaleview_close(&with);
+    }
+    check(row[0], "names", row[2], text_of(found));
+}
+
+/* The words of a command line that decodes by a name. */
+struct asked {
+    struct text name;
+    bool has_value, is_opaque;
+    uint32_t flags;
+    uint16_t depth;
+    uint64_t limit;
+};
+
+/* Takes the next word off the front of a line. */
+static struct text next_word(struct text *line) {
+    const char *space = line->length ? memchr(line->at, ' ', line->length) : NULL;
+    struct text word = {line->at, space ? (size_t)(space - line->at) : line->length};
+    size_t taken = space ? word.length + 1 : word.length;
+    line->at += taken;
+    line->length -= taken;
+    return word;
+}
+
+static bool read_option(struct text option, struct text *line, struct asked *asked) {
+    if (equal(option, text_of("v")))
+        asked->has_value = true;
+    else if (equal(option, text_of("--opaque")))
+        asked->is_opaque = true;
+    else if (equal(option, text_of("--bits")))
+        asked->flags = SCALEVIEW_BITS;
+    else if (equal(option, text_of("--depth")))
+        asked->depth = (uint16_t)number_of(next_word(line));
+    else if (equal(option, text_of("--bytes")))
+        asked->limit = number_of(next_word(line));
+    else
+        return false;
+    return true;
+}
+
+/* Reads what stands after `decode r`, unless it is more than a name, a value and the options that are known here. */
+static bool read_words(struct text line, struct asked *asked) {
+    *asked = (struct asked){.name = next_word(&line), .depth = 64, .limit = 1 << 24};
+    asked->is_opaque = equal(asked->name, text_of("extrinsic"));
+    bool is_known = asked->name.length > 0 && asked->name.at[0] >= 'a';
+    while (is_known && line.length > 0) is_known = read_option(next_word(&line), &line, asked);
+    return is_known;
+}
+
+/* Writes the line that the command prints if a value isn't decoded. */
+static void put_refusal(struct node_text *text, const char *part, scaleview_answer answer, const struct text *name) {
+    char reason[128];
+    text->at += sprintf(text->at, "scaleview: %s: %s", part, told(answer, reason).at);
+    if (name) {
+        *text->at++ = ' ';
+        put_string(text, (const uint8_t *)name->at, name->length);
+    }
+    *text->at++ = '\n';
+}
+
+/* Writes what the command prints of a value: its JSON, or why there is none. */
+static void put_value(struct node_text *text, const struct asked *asked, const uint8_t *value, size_t length) {
+    const uint8_t *name = (const uint8_t *)asked->name.at;
+    scaleview_answer type, answer, front = {.length = length};
+    uint8_t *own = allocated(malloc(TEXT_ROOM));
+    if (!asked->has_value) value = own;
+    if (scaleview_name(text->registry, name, asked->name.length, &type) != SCALEVIEW_OK) {
+        put_refusal(text, "type", type, &asked->name);
+    } else if (!asked->has_value &&
+               scaleview_name_bytes(text->registry, name, asked->name.length, own, TEXT_ROOM, &front) != SCALEVIEW_OK) {
+        put_refusal(text, "type", front, &asked->name);
+    } else if (asked->is_opaque && scaleview_opaque(value, (size_t)front.length, &front) != SCALEVIEW_OK) {
+        put_refusal(text, "value", front, NULL);
+    } else if (scaleview_decode(text->registry, type.from, asked->depth, asked->limit, 0, value + front.at,
+                                (size_t)front.length, (uint8_t *)text->at, TEXT_ROOM, &answer) == SCALEVIEW_OK) {
+        text->at += answer.length;
+        *text->at++ = '\n';
+    } else {
+        answer.at += front.at;
+        put_refusal(text, "value", answer, NULL);
+    }
+    free(own);
+}
+
+/* Writes what the command lists. A name with a control character is a JSON string. */
+static void put_names(struct node_text *text) {
+    uint8_t name[NAME_ROOM];
+    scaleview_answer answer;
+    for (uint32_t i = 0; scaleview_name_at(text->registry, i, name, sizeof name, &answer) == SCALEVIEW_OK; i++) {
+        size_t length = (size_t)answer.length, plain = 0;
+        while (plain < length && name[plain] >= 0x20) plain++;
+        if (plain < length)
+            put_string(text, name, length);
+        else
+            put_bytes(text, name, length);
+        text->at += sprintf(text->at, " %u\n", answer.from);
+    }
+}
+
+/* What stands in a column of what is printed, which shows a line feed as \n and a backslash twice. */
+static struct text shown_text(struct text column, char *to) {
+    size_t length = 0;
+    for (size_t i = 0; i < column.length; i++) {
+        bool is_escaped = column.at[i] == '\\' && i + 1 < column.length;
+        if (is_escaped) i++;
+        to[length++] = is_escaped && column.at[i] == 'n' ? '\n' : column.at[i];
+    }
+    return equal(column, text_of("-")) ? text_of("") : (struct text){to, length};
+}
+
+/* Checks a command line, if the calls here can do what it asks for. */
+static void check_line(struct text metadata, struct text row[COLUMNS], uint8_t *out) {
+    char refused[160], *wanted = allocated(malloc(TEXT_ROOM));
+    struct text line = row[1], command = next_word(&line);
+    struct asked asked = {.flags = 0};
+    bool lists = equal(row[1], text_of("names r")), is_answered = row[4].at[0] <= '1';
+    bool decodes = equal(command, text_of("decode")) && equal(next_word(&line), text_of("r")) && read_words(line, &asked);
+    lines++;
+    if (is_answered && (lists || decodes)) {
+        struct node_text text = {open_names(column_named(metadata, row[2], 1), asked.flags, refused), NULL, (char *)out};
+        size_t length;
+        uint8_t *value = bytes_of(row[3], &length);
+        if (!text.registry.inside)
+            text.at += sprintf(text.at, "scaleview: %s\n", refused);
+        else if (lists)
+            put_names(&text);
+        else
+            put_value(&text, &asked, value, length);
+        struct text found = {(char *)out, (size_t)(text.at - (char *)out)};
+        check(row[0], "line", shown_text(equal(row[6], text_of("-")) ? row[5] : row[6], wanted), found);
+        free(value);
+        scaleview_close(&text.registry);
+        used_lines++;
+    }
+    free(wanted);
+}
+
 int main(int count, char **words) {
-    if (count != 4) {
-        fprintf(stderr, "usage: vectors registries.tsv values.tsv bits.tsv\n");
+    enum { REGISTRIES, VALUES, BITS, METADATA, CHAIN, TABLES };
+    struct text tables[TABLES], table, row[COLUMNS];
+    if (count != 1 + TABLES) {
+        fprintf(stderr, "usage: vectors registries.tsv values.tsv bits.tsv metadata.tsv chain.tsv\n");
         return 2;
     }
-    struct text registries = read_file(words[1]), values = read_file(words[2]), bits = read_file(words[3]);
-    struct text table = registries, row[COLUMNS];
-    uint8_t *out = allocated(malloc(TEXT_ROOM));
-    while (next_row(&table, row)) check_registry(row, out);
-    table = values;
-    while (next_row(&table, row)) check_value(registry_named(registries, row[1]), row, out);
-    table = bits;
-    while (next_row(&table, row)) {
+    for (int i = 0; i < TABLES; i++) tables[i] = read_file(words[1 + i]);
+    uint8_t *out = allocated(malloc(2 * TEXT_ROOM));
+    for (table = tables[REGISTRIES]; next_row(&table, row);) check_registry(row, out);
+    for (table = tables[VALUES]; next_row(&table, row);)
+        check_value(registry_of(column_named(tables[REGISTRIES], row[1], 2), 0), row, out);
+    for (table = tables[BITS]; next_row(&table, row);) {
         check_types(row, out);
         check_value(registry_of(row[1], SCALEVIEW_BITS), row, out);
     }
-    printf("c: %u rows in %u ways, %u wrong\n", rows, ways, wrong);
+    for (table = tables[METADATA]; next_row(&table, row);) check_metadata(row);
+    for (table = tables[CHAIN]; next_row(&table, row);) check_line(tables[METADATA], row, out);
+    printf("c: %u rows in %u ways, and %u of %u command lines, %u wrong\n", rows, ways, used_lines, lines, wrong);
+    for (int i = 0; i < TABLES; i++) free((char *)tables[i].at);
     free(out);
-    free((char *)registries.at);
-    free((char *)values.at);
-    free((char *)bits.at);
     return wrong > 0;
 }
