@@ -56,30 +56,32 @@ inline std::string reason_of(std::uint32_t code) {
     return {reinterpret_cast<const char *>(name), static_cast<std::size_t>(answer.length)};
 }
 
-/* Why there is no answer, in the words of the command. */
+/* Why there is no answer, in the words of the command. `bytes` says which bytes a code of SCALEVIEW_VALUE_* is about. */
 class error : public std::runtime_error {
   public:
-    error(const scaleview_answer &answer, std::uint32_t type)
-        : runtime_error(line(answer, type)), answer_(answer),
+    error(const scaleview_answer &answer, std::uint32_t type, const char *bytes = "value")
+        : runtime_error(line(answer, type, bytes)), answer_(answer),
           place_(answer.code == SCALEVIEW_UNKNOWN_TYPE ? type : answer.at) {}
 
     /* The code, of enum scaleview_code. */
     std::uint32_t code() const { return answer_.code; }
     /* Where: in bytes from the start of the input, or the position of a node or of an unknown type. */
     std::uint64_t place() const { return place_; }
-    /* The type that refers to an unknown one. */
+    /* The type that refers to an unknown one; or the unknown one, if metadata refers to it. */
     std::uint32_t from() const { return answer_.from; }
 
   private:
-    static std::string line(const scaleview_answer &answer, std::uint32_t type) {
+    static std::string line(const scaleview_answer &answer, std::uint32_t type, const char *bytes) {
         const auto code = answer.code;
         const auto at = reason_of(code) + " at " + std::to_string(answer.at);
         if (code == SCALEVIEW_MEMORY) return "memory";
         if (code == SCALEVIEW_UNKNOWN_TYPE) return "type: UnknownType " + std::to_string(type);
         if (code == SCALEVIEW_REGISTRY_UNKNOWN_REFERENCE)
             return "check: UnknownType " + std::to_string(answer.at) + " in type " + std::to_string(answer.from);
+        if (code == SCALEVIEW_METADATA_UNKNOWN_REFERENCE)
+            return "registry: UnknownReference to type " + std::to_string(answer.from) + " at " + std::to_string(answer.at);
         if (code >= 401 && code < 500) return "node: " + at;
-        if (code >= 301 && code < 400) return "value: " + at;
+        if (code >= 301 && code < 400) return bytes + (": " + at);
         if (code >= 101 && code < 200) return "registry: " + at;
         return "code " + std::to_string(code) + " " + reason_of(code);
     }
@@ -103,6 +105,14 @@ struct field {
     std::string_view name;
     bool has_name;
     std::uint32_t type;
+};
+
+/* A type by the name that metadata gives to it, such as "storage:System.Account". */
+struct named_type {
+    std::string name;
+    std::uint32_t type;
+    /* Whether the metadata has bytes for it, which registry::bytes_of_name returns. */
+    bool has_bytes;
 };
 
 /* An arm of a variant. */
@@ -214,8 +224,8 @@ struct open_registry {
     scaleview_answer answer = {};
 
     open_registry(bytes_view bytes, std::uint32_t flags) {
-        scaleview_open(bytes.data(), bytes.size(), flags, &handle, &answer);
-        expect_ok(answer, 0);
+        if (scaleview_open(bytes.data(), bytes.size(), flags, &handle, &answer) != SCALEVIEW_OK)
+            throw error(answer, 0, "registry");
     }
     open_registry(const open_registry &) = delete;
     open_registry &operator=(const open_registry &) = delete;
@@ -223,6 +233,15 @@ struct open_registry {
 };
 
 } // namespace detail
+
+/* The bytes of an opaque value, as an extrinsic in a block is, without the length in front of it. A call that decodes them
+ * counts places from there. */
+inline bytes_view opaque(bytes_view bytes) {
+    scaleview_answer answer;
+    scaleview_opaque(bytes.data(), bytes.size(), &answer);
+    detail::expect_ok(answer, 0);
+    return bytes.sub(static_cast<std::size_t>(answer.at), static_cast<std::size_t>(answer.length));
+}
 
 /* A value whose bytes come in pieces. It may be moved, and is not copied. */
 class session {
@@ -301,6 +320,10 @@ class registry {
     static registry open_metadata(bytes_view bytes, bit_sequences bits = bit_sequences::rejected) {
         return registry(bytes, SCALEVIEW_METADATA, bits);
     }
+    /* Opens a chain's metadata with the names that it gives to types, which is then all read (SCALEVIEW_NAMES). */
+    static registry open_with_names(bytes_view bytes, bit_sequences bits = bit_sequences::rejected) {
+        return registry(bytes, SCALEVIEW_METADATA | SCALEVIEW_NAMES, bits);
+    }
 
     registry(registry &&) noexcept = default;
     registry &operator=(registry &&) noexcept = default;
@@ -353,6 +376,40 @@ class registry {
         if (code == SCALEVIEW_UNKNOWN_TYPE) return std::nullopt;
         detail::expect_ok(answer, from);
         return static_cast<std::uint32_t>(answer.at);
+    }
+
+    /* The type of this name, such as "storage:System.Account", if the metadata has the name. */
+    std::optional<named_type> name(std::string_view text) const {
+        scaleview_answer answer;
+        const bytes_view bytes(text);
+        if (scaleview_name(handle(), bytes.data(), bytes.size(), &answer) == SCALEVIEW_UNKNOWN_NAME) return std::nullopt;
+        detail::expect_ok(answer, 0);
+        return named_type{std::string(text), answer.from, answer.at == 1};
+    }
+
+    /* All names, in the order of the command's `names`. */
+    std::vector<named_type> names() const {
+        std::vector<named_type> found;
+        scaleview_answer answer;
+        for (std::uint32_t i = 0; scaleview_name_at(handle(), i, nullptr, 0, &answer) == SCALEVIEW_NO_ROOM; i++) {
+            std::string text(detail::size_of(answer.length), 0);
+            scaleview_name_at(handle(), i, reinterpret_cast<std::uint8_t *>(text.data()), text.size(), &answer);
+            detail::expect_ok(answer, 0);
+            found.push_back({std::move(text), answer.from, answer.at == 1});
+        }
+        if (answer.code != SCALEVIEW_UNKNOWN_NAME) detail::expect_ok(answer, 0);
+        return found;
+    }
+
+    /* The bytes that the metadata has for a name, if it has some: the value of a constant or a custom value, or the default of
+     * a storage entry. */
+    std::optional<std::vector<std::uint8_t>> bytes_of_name(std::string_view text) const {
+        const auto found = name(text);
+        if (!found || !found->has_bytes) return std::nullopt;
+        const bytes_view bytes(text);
+        return detail::written<std::vector<std::uint8_t>>(64, 0, [&](auto out, auto room, auto answer) {
+            return scaleview_name_bytes(handle(), bytes.data(), bytes.size(), out, room, answer);
+        });
     }
 
     std::string decode_json(std::uint32_t id, bytes_view bytes, const limits &within = {}) const {

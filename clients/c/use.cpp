@@ -1,8 +1,9 @@
 /* Uses the library from C++ as a program does that finds it by pkg-config: opens metadata, decodes a value whole and in pieces,
- * encodes it again, and looks at its types. It prints nothing if all is as it should be.
+ * encodes it again, looks at its types, and asks for names. It prints nothing if all is as it should be.
  *
  *   use METADATA PATH VALUE JSON
  */
+#include "chain_bytes.h"
 #include <scaleview.hpp>
 #include <cstdio>
 #include <fstream>
@@ -121,6 +122,49 @@ static void check_bits() {
     check("bits without their words", registry.bits(value, value.nodes.at(0)).empty() && registry.bits(value, {}).empty());
 }
 
+static void check_names(const scaleview::registry &registry) {
+    const auto now = registry.name("storage:Sys.Now"), last = registry.name("storage:Sys.Last");
+    check("a name", now && now->name == "storage:Sys.Now" && now->type == 1 && now->has_bytes);
+    check("its bytes", registry.bytes_of_name("storage:Sys.Now") == std::vector<std::uint8_t>{42, 0, 0, 0});
+    check("a name without bytes", last && !last->has_bytes && !registry.bytes_of_name("storage:Sys.Last"));
+    check("no such name", !registry.name("storage:Sys") && !registry.bytes_of_name("storage:Sys"));
+    const auto names = registry.names();
+    check("all names", names.size() == 29 && names.at(0).name == "extrinsic" && names.at(28).name == "custom:Sys.Now");
+    check("the last one", names.at(28).type == 0 && names.at(28).has_bytes && !names.at(0).has_bytes);
+}
+
+/* An extrinsic, and what is wrong with the length in front of others. */
+static void check_opaque(const scaleview::registry &registry) {
+    const std::vector<std::uint8_t> bytes{0x18, 0x04, 0x01, 0xd2, 0x04, 0, 0}, shorter(bytes.begin(), bytes.end() - 1);
+    auto longer = bytes;
+    longer.push_back(0);
+    const auto extrinsic = registry.name("extrinsic").value().type;
+    const auto json = registry.decode_json(extrinsic, scaleview::opaque(bytes));
+    check("an extrinsic", json == R"({"bare":{"call":{"set":{"now":1234}}}})");
+    check("cut", thrown([&] { scaleview::opaque(shorter); }, 6) == "value: Truncated at 6");
+    check("a byte more", thrown([&] { scaleview::opaque(longer); }, 7) == "value: TrailingBytes at 7");
+}
+
+/* A chain with its names; the same metadata without them, and with a fault after its registry. */
+static void check_chain() {
+    const scaleview::bytes_view all(chain_bytes, sizeof chain_bytes);
+    auto registry = scaleview::registry::open_with_names(all);
+    check("a chain", registry.version() == 15 && registry.end() == CHAIN_REGISTRY_END && registry.types() == 24);
+    check_names(registry);
+    check_opaque(registry);
+    const auto without = scaleview::registry::open_metadata(all);
+    check("no names", without.types() == 13 && !without.name("call") && without.names().empty());
+    const auto cut = [&] { scaleview::registry::open_with_names(all.sub(0, 455)); };
+    check("the end is cut", thrown(cut, 455) == "registry: Truncated at 455");
+    std::vector<std::uint8_t> changed(chain_bytes, chain_bytes + sizeof chain_bytes);
+    changed.at(234) = 13 << 2;
+    const auto refer = [&] { scaleview::registry::open_with_names(changed); };
+    check("an unknown reference", thrown(refer, 234) == "registry: UnknownReference to type 13 at 234");
+    const auto moved = std::move(registry);
+    check("nothing to list", thrown([&] { registry.names(); }, 0) == "code 5 NoHandle");
+    check("nothing to find", thrown([&] { registry.name("call"); }, 0) == "code 5 NoHandle");
+}
+
 int main(int count, char **words) {
     if (count != 5) return 2;
     check("the version", scaleview_version() == SCALEVIEW_VERSION);
@@ -136,5 +180,6 @@ int main(int count, char **words) {
     check_arms(registry);
     check_small();
     check_bits();
+    check_chain();
     return failures > 0;
 }
