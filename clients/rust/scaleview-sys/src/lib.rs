@@ -9,9 +9,9 @@
 //!   call writes to must not overlap anything else that it is given. No call keeps a pointer to
 //!   bytes.
 //! - A handle is null or was set by a call. A copy of a closed or freed handle must not be used.
-//! - [`scaleview_types`], the calls that describe types, [`scaleview_decode`],
-//!   [`scaleview_decode_nodes`] and [`scaleview_encode_nodes`] only read a registry: any number of
-//!   threads may make them on one registry at the same time.
+//! - [`scaleview_types`], the calls that describe types, those that ask for names,
+//!   [`scaleview_decode`], [`scaleview_decode_nodes`] and [`scaleview_encode_nodes`] only read a
+//!   registry: any number of threads may make them on one registry at the same time.
 //! - A session is used by one call at a time. Of [`scaleview_start`] and [`scaleview_free`], one
 //!   call at a time may run on a registry and its sessions, and no other call on them during
 //!   [`scaleview_close`].
@@ -67,12 +67,19 @@ pub const SCALEVIEW_REGISTRY_WRONG_VERSION: u32 = 110;
 pub const SCALEVIEW_REGISTRY_TRAILING_BYTES: u32 = 111;
 /// The type `from` refers to the type `at`, which does not exist.
 pub const SCALEVIEW_REGISTRY_UNKNOWN_REFERENCE: u32 = 112;
+/// What follows the registry in metadata refers, at the place `at`, to the type `from`, which does
+/// not exist.
+pub const SCALEVIEW_METADATA_UNKNOWN_REFERENCE: u32 = 113;
 /// The registry has no type at this position.
 pub const SCALEVIEW_UNKNOWN_TYPE: u32 = 201;
 /// A limit is above 1024 for the depth, or above 2^40 for the bytes.
 pub const SCALEVIEW_LIMIT_OUT_OF_RANGE: u32 = 202;
 /// The type has no such field, member or arm.
 pub const SCALEVIEW_UNKNOWN_PART: u32 = 203;
+/// The metadata has no such name.
+pub const SCALEVIEW_UNKNOWN_NAME: u32 = 204;
+/// The metadata has no bytes for the name.
+pub const SCALEVIEW_NO_BYTES: u32 = 205;
 /// The value's bytes are rejected: `Truncated`.
 pub const SCALEVIEW_VALUE_TRUNCATED: u32 = 301;
 /// The value's bytes are rejected: `BadBool`.
@@ -124,6 +131,8 @@ pub const SCALEVIEW_NODES_BAD_TEXT: u32 = 409;
 
 /// A flag of [`scaleview_open`]: the bytes are a chain's metadata.
 pub const SCALEVIEW_METADATA: u32 = 1;
+/// A flag of [`scaleview_open`]: the names that the metadata gives to types are read as well.
+pub const SCALEVIEW_NAMES: u32 = 2;
 /// A flag of [`scaleview_open`]: values of bit sequences are read, where the store and the order
 /// are known.
 pub const SCALEVIEW_BITS: u32 = 4;
@@ -270,15 +279,16 @@ pub struct scaleview_node {
 pub struct scaleview_answer {
     /// The code that the call returned.
     pub code: u32,
-    /// The position of the type that has the unknown reference; the version of an open registry's
-    /// metadata; the type of a part; or the index of an arm.
+    /// The position of the type that has the unknown reference, or that metadata refers to; the
+    /// version of an open registry's metadata; the type of a part or of a name; or the index of an
+    /// arm.
     pub from: u32,
-    /// The place of an error, or where an open registry ends, in bytes from the start of the
-    /// input; 1 if a part has a name; the number of an arm's fields; the position of a type or of a
-    /// node; or the number of bytes of a pool.
+    /// The place of an error, or where an open registry ends or an opaque value begins, in bytes
+    /// from the start of the input; 1 if a part has a name or a name has bytes; the number of an
+    /// arm's fields; the position of a type or of a node; or the number of bytes of a pool.
     pub at: u64,
-    /// The number of bytes of a text, of types, of nodes, or of bytes of a piece that belong to the
-    /// value.
+    /// The number of bytes of a text, of a name's bytes, of an opaque value, of types, of nodes, or
+    /// of bytes of a piece that belong to the value.
     pub length: u64,
 }
 
@@ -314,7 +324,8 @@ const _: () = {
 
 unsafe extern "C" {
     /// Opens the registry that all the bytes hold. `flags` is 0 or a sum of [`SCALEVIEW_METADATA`]
-    /// for a chain's metadata, whose end is not read, and [`SCALEVIEW_BITS`].
+    /// for a chain's metadata, [`SCALEVIEW_NAMES`], without which its end is not read, and
+    /// [`SCALEVIEW_BITS`].
     ///
     /// # Safety
     ///
@@ -461,6 +472,65 @@ unsafe extern "C" {
         length: usize,
         answer: *mut scaleview_answer,
     ) -> u32;
+
+    /// Finds the name that these bytes are; reports its type in `answer.from`, whether it has bytes
+    /// in `answer.at`, and how many in `answer.length`.
+    ///
+    /// # Safety
+    ///
+    /// `registry` is null, or open and not closed before the call returns, by another thread too.
+    /// No call that changes the registry or a session of it runs at the same time. `name` can be
+    /// read for `length` elements. `answer` can be written. What is written overlaps nothing else
+    /// that the call is given.
+    pub fn scaleview_name(
+        registry: scaleview_registry,
+        name: *const u8,
+        length: usize,
+        answer: *mut scaleview_answer,
+    ) -> u32;
+
+    /// Writes the name at this index to `out`; reports its type in `answer.from`, and whether it
+    /// has bytes in `answer.at`.
+    ///
+    /// # Safety
+    ///
+    /// `registry` is null, or open and not closed before the call returns, by another thread too.
+    /// No call that changes the registry or a session of it runs at the same time. `out` can be
+    /// written for `room` bytes. `answer` can be written. What is written overlaps nothing else
+    /// that the call is given.
+    pub fn scaleview_name_at(
+        registry: scaleview_registry,
+        index: u32,
+        out: *mut u8,
+        room: usize,
+        answer: *mut scaleview_answer,
+    ) -> u32;
+
+    /// Writes the bytes that the metadata has for a name to `out`.
+    ///
+    /// # Safety
+    ///
+    /// `registry` is null, or open and not closed before the call returns, by another thread too.
+    /// No call that changes the registry or a session of it runs at the same time. `name` can be
+    /// read for `length` elements. `out` can be written for `room` bytes. `answer` can be written.
+    /// What is written overlaps nothing else that the call is given.
+    pub fn scaleview_name_bytes(
+        registry: scaleview_registry,
+        name: *const u8,
+        length: usize,
+        out: *mut u8,
+        room: usize,
+        answer: *mut scaleview_answer,
+    ) -> u32;
+
+    /// Reads the length in front of an opaque value; reports where the value begins in `answer.at`,
+    /// and how many bytes it has in `answer.length`.
+    ///
+    /// # Safety
+    ///
+    /// `bytes` can be read for `length` elements. `answer` can be written. What is written overlaps
+    /// nothing else that the call is given.
+    pub fn scaleview_opaque(bytes: *const u8, length: usize, answer: *mut scaleview_answer) -> u32;
 
     /// Decodes the value that all the bytes spell, and writes its JSON to `out`.
     ///
