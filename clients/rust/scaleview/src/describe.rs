@@ -145,7 +145,7 @@ impl Reader {
 }
 
 /// Returns the name that a call writes, and the call's answer.
-fn named(
+pub(crate) fn named(
     mut call: impl FnMut(*mut u8, usize, &mut Answer) -> u32,
 ) -> Result<(String, Answer), Error> {
     let (mut room, mut answer) = ([0; NAME], Answer::default());

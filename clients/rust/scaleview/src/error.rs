@@ -122,6 +122,23 @@ pub enum Error {
         /// The type that doesn't exist.
         to: u32,
     },
+    /// What follows the registry in metadata is rejected, which
+    /// [`Metadata::open`](crate::Metadata::open) reads.
+    Metadata {
+        /// Why.
+        reason: ValueReason,
+        /// Where, from the first byte of the metadata.
+        place: u64,
+    },
+    /// What follows the registry in metadata refers to the type `to`, which doesn't exist.
+    UnknownMetadataReference {
+        /// The type that doesn't exist.
+        to: u32,
+        /// Where the reference is, from the first byte of the metadata.
+        place: u64,
+    },
+    /// The metadata has no bytes for a name: see [`Named::has_bytes`](crate::Named::has_bytes).
+    NoBytes,
     /// The registry has no type at this position.
     UnknownType {
         /// The position.
@@ -203,8 +220,22 @@ impl Error {
                 from: answer.from,
                 to: answer.at as u32,
             },
+            sys::SCALEVIEW_METADATA_UNKNOWN_REFERENCE => Error::UnknownMetadataReference {
+                to: answer.from,
+                place: answer.at,
+            },
+            sys::SCALEVIEW_NO_BYTES => Error::NoBytes,
             sys::SCALEVIEW_LIMIT_OUT_OF_RANGE => Error::LimitOutOfRange,
             code => Error::Library { code },
+        }
+    }
+
+    /// The error of a call that opens a registry, whose reasons of a value are about what follows
+    /// the registry.
+    pub(crate) fn of_opening(answer: Answer) -> Error {
+        match Error::of(answer) {
+            Error::Value { reason, place } => Error::Metadata { reason, place },
+            error => error,
         }
     }
 
@@ -226,6 +257,14 @@ impl fmt::Display for Error {
             Error::UnknownReference { from, to } => {
                 pad(f, format_args!("check: UnknownType {to} in type {from}"))
             }
+            Error::Metadata { reason, place } => {
+                pad(f, format_args!("registry: {reason} at {place}"))
+            }
+            Error::UnknownMetadataReference { to, place } => pad(
+                f,
+                format_args!("registry: UnknownReference to type {to} at {place}"),
+            ),
+            Error::NoBytes => f.pad("type: NoBytes"),
             Error::UnknownType { id } => pad(f, format_args!("type: UnknownType {id}")),
             Error::LimitOutOfRange => f.pad("limits: LimitOutOfRange"),
             Error::Value { reason, place } => pad(f, format_args!("value: {reason} at {place}")),

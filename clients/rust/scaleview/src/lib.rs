@@ -3,8 +3,9 @@
 //!
 //! A [`Registry`] is opened once, from a chain's metadata or from a registry alone. It decodes any
 //! number of values: as a [`Value`] to walk through, as JSON text, or in pieces by a [`Session`].
-//! It encodes a [`Value`] again, or an [`Item`] that a program builds. The decoder behind this
-//! crate is proved; this wrapper is tested.
+//! It encodes a [`Value`] again, or an [`Item`] that a program builds. [`Metadata`] is a registry
+//! that knows its types by what they are for: storage entries and their keys, constants, calls,
+//! events, extrinsics. The decoder behind this crate is proved; this wrapper is tested.
 //!
 //! ```
 //! # fn main() -> Result<(), scaleview::Error> {
@@ -41,6 +42,8 @@ mod item;
 mod json;
 mod limits;
 mod lower;
+mod metadata;
+mod opaque;
 mod options;
 mod registry;
 mod session;
@@ -52,6 +55,7 @@ pub use convert::TryFromValueError;
 pub use error::{Error, NodeReason, RegistryReason, ValueReason};
 pub use item::{Item, Source};
 pub use limits::{Limits, Memory};
+pub use metadata::{Metadata, Named, Names};
 pub use options::OpenOptions;
 pub use registry::Registry;
 pub use session::{AnySession, OwnedSession, Progress, RegistryRef, Session};

@@ -1,6 +1,7 @@
 //! How a registry is opened.
 
 use crate::error::Error;
+use crate::metadata::Metadata;
 use crate::registry::Registry;
 use scaleview_sys as sys;
 
@@ -8,7 +9,7 @@ use scaleview_sys as sys;
 /// the id 29.
 const METADATA: &[u8] = b"meta";
 
-/// How a registry is opened. [`Registry::open`] and the like take the default.
+/// How a registry is opened. [`Registry::open`], [`Metadata::open`] and the like take the default.
 ///
 /// # Examples
 ///
@@ -112,5 +113,26 @@ impl OpenOptions {
     /// ```
     pub fn open_metadata(self, bytes: &[u8]) -> Result<Registry, Error> {
         Registry::opened(bytes, self.flags() | sys::SCALEVIEW_METADATA)
+    }
+
+    /// Opens a chain's metadata with its names, as [`Metadata::open`] does.
+    ///
+    /// # Errors
+    /// As [`Metadata::open`].
+    ///
+    /// # Examples
+    ///
+    /// ```
+    /// # use scaleview::{Error, OpenOptions};
+    /// # fn main() -> Result<(), Error> {
+    /// # let bytes = b"meta\x0f\x04\0\0\0\x05\x05\0\0\x04\0\0\0\0\0\0\0\0\0\0\0";
+    /// let metadata = OpenOptions::new().bits(true).open_with_names(bytes)?;
+    /// assert_eq!(metadata.call().map(|call| call.type_id()), Some(0));
+    /// # Ok(())
+    /// # }
+    /// ```
+    pub fn open_with_names(self, bytes: &[u8]) -> Result<Metadata, Error> {
+        let flags = self.flags() | sys::SCALEVIEW_METADATA | sys::SCALEVIEW_NAMES;
+        Registry::opened(bytes, flags).map(Metadata::of)
     }
 }

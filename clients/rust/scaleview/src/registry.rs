@@ -99,7 +99,7 @@ impl Registry {
             sys::scaleview_open(bytes.as_ptr(), bytes.len(), flags, &mut handle, &mut answer)
         };
         if code != sys::SCALEVIEW_OK {
-            return Err(Error::of(answer));
+            return Err(Error::of_opening(answer));
         }
         let len = answer.length as u32;
         let mut registry = Registry {
@@ -117,7 +117,8 @@ impl Registry {
 
     /// Opens the registry that all the bytes hold: a chain's metadata, version 14 or 15, if they
     /// begin with the four letters `meta`, and otherwise a registry alone. What follows the
-    /// registry in metadata is not read. The bytes are not kept.
+    /// registry in metadata is not read, as it is by [`Metadata::open`](crate::Metadata::open). The
+    /// bytes are not kept.
     ///
     /// Values of bit sequences are rejected, unless the registry is opened with
     /// [`OpenOptions::bits`].
@@ -182,12 +183,13 @@ impl Registry {
         (self.version != 0).then_some(self.version)
     }
 
-    /// Returns where the registry ends, in bytes from the start of the input.
+    /// Returns where the registry's own types end, in bytes from the start of the input.
     pub fn end(&self) -> u64 {
         self.end
     }
 
-    /// Returns the number of types; their positions are below that.
+    /// Returns the number of types; their positions are below that. The synthetic types of
+    /// [`Metadata`](crate::Metadata) count.
     pub fn len(&self) -> u32 {
         self.len
     }

@@ -3,7 +3,7 @@
 mod common;
 
 use common::*;
-use scaleview::{Error, Item, Limits, OpenOptions, Registry};
+use scaleview::{Error, Item, Limits, Metadata, OpenOptions, Registry};
 use std::alloc::{GlobalAlloc, Layout, System};
 use std::cell::Cell;
 use std::fmt::Write;
@@ -158,6 +158,23 @@ fn bit_sequences_may_lack_memory() {
     check("encode in another form", || open(&msb0)?.encode(2, &item));
     let shown = with_allocations(0, || write!(Fixed(0), "{value} {item:?}"));
     assert_eq!(shown, Ok(()));
+}
+
+#[test]
+fn names_may_lack_memory() {
+    let bytes = metadata("small chain 15");
+    check("open metadata", || Metadata::open(&bytes));
+    let chain = Metadata::open(&bytes).unwrap();
+    check("list names", || {
+        chain.names().try_for_each(|named| named.map(|_| ()))
+    });
+    let pair = chain.constant("Other", "Pair").unwrap();
+    check("bytes of a name", || pair.bytes());
+    check("the value of a name", || pair.value().map(|_| ()));
+    let call = chain.extrinsic().unwrap().type_id();
+    check("decode an opaque value", || {
+        chain.decode_opaque_json(call, b"\x18\x04\x01\xd2\x04\0\0")
+    });
 }
 
 /// An enum of one variant, and a sequence of it: each byte is a node.

@@ -3,7 +3,9 @@
 mod common;
 
 use common::*;
-use scaleview::{Error, Item, Limits, OwnedSession, Progress, Registry, Session, Value};
+use scaleview::{
+    Error, Item, Limits, Metadata, Named, OwnedSession, Progress, Registry, Session, Value,
+};
 use std::collections::HashSet;
 use std::path::Path;
 use std::sync::{Arc, Barrier, OnceLock};
@@ -22,6 +24,8 @@ fn example(name: &str) -> Vec<u8> {
 fn all_may_be_sent_and_shared() {
     fn may<T: Send + Sync>() {}
     may::<Registry>();
+    may::<Metadata>();
+    may::<Named>();
     may::<Session>();
     may::<OwnedSession>();
     may::<Value>();
@@ -116,6 +120,24 @@ fn four_threads_have_sessions_of_one_registry() {
                 begun.wait();
                 for _ in 0..5 {
                     assert_eq!(make(registry, 10, block, step), [wanted; 3]);
+                }
+            });
+        }
+    });
+}
+
+#[test]
+fn four_threads_ask_for_names() {
+    let chain = Metadata::open(&metadata("small chain 15")).unwrap();
+    let begun = Barrier::new(4);
+    thread::scope(|scope| {
+        for _ in 0..4 {
+            scope.spawn(|| {
+                begun.wait();
+                for _ in 0..100 {
+                    assert_eq!(chain.names().count(), 29);
+                    let pair = chain.constant("Other", "Pair").unwrap();
+                    assert_eq!(pair.value().unwrap().to_string(), "[1,2]");
                 }
             });
         }

@@ -1,31 +1,11 @@
-//! The tables of test vectors: each registry's answer and types, and each value whole and in
-//! pieces, as JSON and as nodes, and back from them.
+//! The tables of test vectors: each registry's answer and types, each value whole and in pieces, as
+//! JSON and as nodes, and back from them, and what metadata names.
 
-use scaleview::{Error, Limits, OpenOptions, Progress, Registry, Value};
+mod common;
+
+use common::*;
+use scaleview::{Error, Item, Limits, Metadata, OpenOptions, Progress, Registry, TypeId, Value};
 use std::collections::HashMap;
-use std::path::PathBuf;
-
-fn table(name: &str) -> String {
-    let path = PathBuf::from(env!("CARGO_MANIFEST_DIR"))
-        .join("../../../crates/vectors/data")
-        .join(name);
-    std::fs::read_to_string(path).expect("a table of vectors")
-}
-
-fn rows(table: &str) -> impl Iterator<Item = Vec<&str>> {
-    let lines = table
-        .split('\n')
-        .filter(|line| !line.is_empty() && !line.starts_with('#'));
-    lines.map(|line| line.split('\t').collect())
-}
-
-fn bytes_of(column: &str) -> Vec<u8> {
-    let digits = if column == "-" { "" } else { column };
-    (0..digits.len())
-        .step_by(2)
-        .map(|at| u8::from_str_radix(&digits[at..at + 2], 16).expect("two digits"))
-        .collect()
-}
 
 /// The error in the words of the tables.
 fn told(error: Error) -> String {
@@ -243,4 +223,173 @@ fn bit_sequences_are_answered() {
         count += 1;
     }
     assert!(count > 250);
+}
+
+/// How many types metadata has by itself, how many with the synthetic ones, and how many names.
+fn counts_of(bytes: &[u8]) -> Result<String, Error> {
+    let metadata = Metadata::open(bytes)?;
+    let own = Registry::open_metadata(bytes)?.len();
+    let mut names = 0;
+    for named in metadata.names() {
+        let named = named?;
+        let found = metadata.named(named.name()).expect("the same name");
+        assert_eq!(found.type_id(), named.type_id());
+        assert_eq!(found.has_bytes(), named.has_bytes());
+        names += 1;
+    }
+    Ok(format!("{own} {} {names}", metadata.len()))
+}
+
+#[test]
+fn metadata_is_answered() {
+    let mut count = 0;
+    for row in rows(&table("metadata.tsv")) {
+        let found = counts_of(&bytes_of(row[1])).unwrap_or_else(|error| error.to_string());
+        assert_eq!(found, row[2], "{}", row[0]);
+        count += 1;
+    }
+    assert!(count > 150);
+}
+
+/// A JSON string, as the library writes it.
+fn quoted(text: &str) -> String {
+    let registry = Registry::open(b"\x04\0\0\0\x05\x02\0").expect("a registry of str");
+    let bytes = registry.encode(0, &Item::from(text)).expect("a text");
+    registry.decode_json(0, &bytes).expect("its JSON")
+}
+
+/// What the command prints, which the tables show with `\n` for a line feed and two backslashes
+/// for one.
+fn printed(column: &str) -> String {
+    let shown = if column == "-" { "" } else { column };
+    let parts: Vec<String> = shown
+        .split(r"\\")
+        .map(|part| part.replace(r"\n", "\n"))
+        .collect();
+    parts.join("\\")
+}
+
+/// A command line that decodes a value by a name or by an ID.
+#[derive(Default)]
+struct Line<'a> {
+    name: &'a str,
+    options: OpenOptions,
+    limits: Limits,
+    has_value: bool,
+    is_opaque: bool,
+    is_metadata: bool,
+}
+
+impl<'a> Line<'a> {
+    /// Reads the words, unless they ask for more than this crate does.
+    fn of(words: &'a str) -> Option<Line<'a>> {
+        let mut words = words.strip_prefix("decode r ")?.split(' ');
+        let name = words.next()?;
+        let is_opaque = name == "extrinsic";
+        let mut line = Line {
+            name,
+            is_opaque,
+            ..Line::default()
+        };
+        while let Some(word) = words.next() {
+            match word {
+                "v" if !line.has_value => line.has_value = true,
+                "--bits" => line.options = line.options.bits(true),
+                "--opaque" => line.is_opaque = true,
+                "--depth" => line.limits = line.limits.depth(words.next()?.parse().ok()?),
+                "--bytes" => line.limits = line.limits.bytes(words.next()?.parse().ok()?),
+                "--metadata" => line.is_metadata = true,
+                _ => return None,
+            }
+        }
+        Some(line)
+    }
+
+    fn json(&self, registry: &Registry, id: TypeId, bytes: &[u8]) -> Result<String, Error> {
+        if self.is_opaque {
+            let value = registry.decode_opaque_within(id, bytes, self.limits);
+            let json = registry.decode_opaque_json_within(id, bytes, self.limits);
+            assert_eq!(value.map(|value| value.to_string()), json);
+            json
+        } else {
+            registry.decode_json_within(id, bytes, self.limits)
+        }
+    }
+
+    /// The JSON by a type of the registry alone, whose names are not read.
+    fn by_id(&self, id: TypeId, file: &[u8], value: &[u8]) -> Result<String, Error> {
+        let registry = if self.is_metadata {
+            self.options.open_metadata(file)?
+        } else {
+            self.options.open_raw(file)?
+        };
+        self.json(&registry, id, value)
+    }
+
+    fn by_name(&self, file: &[u8], value: &[u8]) -> Result<String, String> {
+        let told = |error: Error| match error {
+            Error::NoBytes => format!("{error} {}", quoted(self.name)),
+            error => error.to_string(),
+        };
+        let metadata = self.options.open_with_names(file).map_err(told)?;
+        let unknown = || format!("type: UnknownName {}", quoted(self.name));
+        let named = metadata.named(self.name).ok_or_else(unknown)?;
+        let bytes = if self.has_value {
+            value.to_vec()
+        } else {
+            named.bytes().map_err(told)?
+        };
+        self.json(&metadata, named.type_id(), &bytes).map_err(told)
+    }
+
+    /// What the command prints without the line feed: the JSON, or the line of an error.
+    fn answer(&self, file: &[u8], value: &[u8]) -> Result<String, String> {
+        match self.name.parse() {
+            Ok(id) => self
+                .by_id(id, file, value)
+                .map_err(|error| error.to_string()),
+            Err(_) => self.by_name(file, value),
+        }
+    }
+}
+
+/// What the command lists: a name with a control character is a JSON string.
+fn list(bytes: &[u8]) -> Result<String, String> {
+    let metadata = Metadata::open(bytes).map_err(|error| error.to_string())?;
+    let mut lines = String::new();
+    for named in metadata.names() {
+        let named = named.expect("a name");
+        let is_plain = named.name().chars().all(|c| c >= ' ');
+        let name = if is_plain {
+            named.name().to_string()
+        } else {
+            quoted(named.name())
+        };
+        lines += &format!("{name} {}\n", named.type_id());
+    }
+    Ok(lines)
+}
+
+#[test]
+fn command_lines_are_answered() {
+    let mut count = 0;
+    for row in rows(&table("chain.tsv")).filter(|row| row[4] < "2") {
+        let bytes = metadata(row[2]);
+        let found = if row[1] == "names r" {
+            list(&bytes)
+        } else if let Some(line) = Line::of(row[1]) {
+            line.answer(&bytes, &bytes_of(row[3]))
+                .map(|json| json + "\n")
+        } else {
+            continue;
+        };
+        let wanted = match row[4] {
+            "0" => Ok(printed(row[5])),
+            _ => Err(printed(row[6])),
+        };
+        let found = found.map_err(|line| format!("scaleview: {line}\n"));
+        assert_eq!(found, wanted, "{}", row[0]);
+        count += 1;
+    }
+    assert!(count > 270, "{count}");
 }

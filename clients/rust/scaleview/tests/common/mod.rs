@@ -1,5 +1,39 @@
-//! Registries that several tests use, in scale-info's portable form.
+//! Registries that several tests use, in scale-info's portable form, and the tables of vectors.
 #![allow(dead_code, reason = "not every test uses all of them")]
+
+use std::path::PathBuf;
+
+/// Returns the text of a table of vectors.
+pub fn table(name: &str) -> String {
+    let path = PathBuf::from(env!("CARGO_MANIFEST_DIR"))
+        .join("../../../crates/vectors/data")
+        .join(name);
+    std::fs::read_to_string(path).expect("a table of vectors")
+}
+
+/// Returns the columns of each row of a table.
+pub fn rows(table: &str) -> impl Iterator<Item = Vec<&str>> {
+    let lines = table
+        .split('\n')
+        .filter(|line| !line.is_empty() && !line.starts_with('#'));
+    lines.map(|line| line.split('\t').collect())
+}
+
+/// Returns the bytes of a column.
+pub fn bytes_of(column: &str) -> Vec<u8> {
+    let digits = if column == "-" { "" } else { column };
+    (0..digits.len())
+        .step_by(2)
+        .map(|at| u8::from_str_radix(&digits[at..at + 2], 16).expect("two digits"))
+        .collect()
+}
+
+/// Returns metadata of the tables by its name.
+pub fn metadata(name: &str) -> Vec<u8> {
+    let table = table("metadata.tsv");
+    let row = rows(&table).find(|row| row[0] == name);
+    bytes_of(row.expect("a row of this name")[1])
+}
 
 /// A u16.
 pub const U16: &[u8] = b"\x04\x00\x00\x00\x05\x04\x00";
