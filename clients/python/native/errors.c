@@ -48,22 +48,50 @@ void raise_out_of_memory(const struct state *state, uint64_t memory) {
                      "the budget of %llu bytes of memory is reached, or an allocation failed", (unsigned long long)memory);
 }
 
+static void raise_refused(const struct state *state, const scaleview_answer *answer, const char *part, uint32_t type,
+                          Py_ssize_t item) {
+    uint32_t code = answer->code;
+    bool has_types = code == SCALEVIEW_REGISTRY_UNKNOWN_REFERENCE, is_unknown = code == SCALEVIEW_UNKNOWN_TYPE;
+    bool has_place = !has_types && (code < 200 || code >= 300);
+    bool has_target = has_types || is_unknown || code == SCALEVIEW_METADATA_UNKNOWN_REFERENCE;
+    uint64_t target = has_types ? answer->at : is_unknown ? type : answer->from;
+    raise_new(state->refused_class,
+              Py_BuildValue("(INsNNNN)", code, reason_of(code), part, number_or_none(has_place, answer->at),
+                            number_or_none(has_types, answer->from), number_or_none(has_target, target),
+                            number_or_none(item >= 0, (unsigned long long)item)));
+}
+
 /* Raises what a call with this budget of memory answered: on this type, and on this item of several if it isn't negative. */
 void raise_answer(const struct state *state, const scaleview_answer *answer, uint32_t type, Py_ssize_t item,
                   uint64_t memory) {
-    uint32_t code = answer->code;
-    if (code == SCALEVIEW_MEMORY) {
+    if (answer->code == SCALEVIEW_MEMORY)
         raise_out_of_memory(state, memory);
-        return;
-    }
-    const char *part = part_of(code);
-    bool has_types = code == SCALEVIEW_REGISTRY_UNKNOWN_REFERENCE, is_unknown = code == SCALEVIEW_UNKNOWN_TYPE;
-    bool has_place = !has_types && (code < 200 || code >= 300);
-    raise_new(state->refused_class,
-              Py_BuildValue("(INsNNNN)", code, reason_of(code), part, number_or_none(has_place, answer->at),
-                            number_or_none(has_types, answer->from),
-                            number_or_none(has_types || is_unknown, is_unknown ? type : answer->at),
-                            number_or_none(item >= 0, (unsigned long long)item)));
+    else
+        raise_refused(state, answer, part_of(answer->code), type, item);
+}
+
+/* Raises what the opening of a registry answered. A value's codes are then about what follows it in metadata. */
+void raise_unopened(const struct state *state, const scaleview_answer *answer) {
+    uint32_t code = answer->code;
+    if (code == SCALEVIEW_MEMORY)
+        raise_out_of_memory(state, 0);
+    else
+        raise_refused(state, answer, code >= SCALEVIEW_VALUE_TRUNCATED ? "registry" : part_of(code), 0, -1);
+}
+
+/* Raises that the metadata doesn't have a name, or no bytes for it. */
+void raise_name(const struct state *state, const scaleview_answer *answer, PyObject *name) {
+    uint32_t code = answer->code;
+    raise_new(state->refused_class, Py_BuildValue("(INsOOOOO)", code, reason_of(code), part_of(code), Py_None, Py_None,
+                                                  Py_None, Py_None, name));
+}
+
+/* Raises what a call on an input answered. */
+int fail_input(const struct input *input, const scaleview_answer *answer) {
+    scaleview_answer placed = *answer;
+    placed.at += input->before;
+    raise_answer(input->call->shared->state, &placed, input->call->type, input->item, input->memory);
+    return -1;
 }
 
 /* Raises the refusal of a node, which has this path. */
@@ -89,7 +117,8 @@ int read_number(const char *name, PyObject *object, uint64_t most, uint64_t *num
 /* Raises that this names no type. */
 static int fail_type(PyObject *object) {
     PyObject *class = PyObject_GetAttrString((PyObject *)Py_TYPE(object), "__name__");
-    const char *hint = PyUnicode_Check(object) ? "; find() gives the type of a path" : "";
+    static const char by_text[] = "; find() gives the type of a path, and type_of() of a Metadata that of a name";
+    const char *hint = PyUnicode_Check(object) ? by_text : "";
     if (class) PyErr_Format(PyExc_TypeError, "a type is its position or a Type, not %R%s", class, hint);
     Py_XDECREF(class);
     return -1;

@@ -143,6 +143,7 @@ struct call {
     struct shared *shared;
     PyObject *value; /* borrowed */
     uint32_t type;
+    bool is_opaque; /* the value has its length in front */
     struct limits limits;
 };
 
@@ -155,6 +156,7 @@ struct input {
     Py_ssize_t item; /* its position among several, or -1 */
     uint64_t memory; /* the budget, or 0 for none */
     bool is_front;   /* other bytes may follow the value */
+    uint64_t before; /* the number of bytes before the value, which places count as well */
 };
 
 /* shared.c: registries, turns and memory. */
@@ -174,6 +176,9 @@ uint32_t with_stack(uint16_t depth, uint32_t (*call)(void *), void *context);
 /* errors.c: exceptions, numbers and buffers. */
 int import_classes(struct state *state);
 void raise_answer(const struct state *state, const scaleview_answer *answer, uint32_t type, Py_ssize_t item, uint64_t memory);
+void raise_unopened(const struct state *state, const scaleview_answer *answer);
+void raise_name(const struct state *state, const scaleview_answer *answer, PyObject *name);
+int fail_input(const struct input *input, const scaleview_answer *answer);
 void raise_rejected_node(const struct state *state, const scaleview_answer *answer, PyObject *path);
 void raise_out_of_memory(const struct state *state, uint64_t memory);
 PyObject *reason_of(uint32_t code);
@@ -195,6 +200,11 @@ PyObject *arms_list(struct shared *shared, uint32_t type);
 PyObject *path_of(struct shared *shared, uint32_t type);
 PyObject *line_of(struct shared *shared, uint32_t type);
 PyObject *find_path(struct shared *shared, uint32_t from, PyObject *path);
+
+/* names.c: what metadata names. */
+PyObject *find_name(struct shared *shared, PyObject *name);
+PyObject *name_at(struct shared *shared, uint32_t index);
+PyObject *bytes_of_name(struct shared *shared, PyObject *name);
 
 /* variant.c: the class of variants' values. */
 int make_variant_class(PyObject *module);

@@ -30,11 +30,6 @@ struct held *start_session(const struct call *call, uint64_t memory, Py_ssize_t 
     return NULL;
 }
 
-static int fail_input(const struct input *input, const scaleview_answer *answer) {
-    raise_answer(input->call->shared->state, answer, input->call->type, input->item, input->memory);
-    return -1;
-}
-
 /* Feeds a piece of the bytes. A session that no other call knows is fed like a registry that is read. */
 static int feed_piece(const struct input *input, struct held *held, size_t from, size_t length, scaleview_answer *answer) {
     struct shared *shared = input->call->shared;
@@ -101,7 +96,7 @@ static int finish_pieces(const struct input *input, struct held *held, struct sc
 /* Decodes a value in pieces, and reports how many bytes it takes. */
 PyObject *decode_pieces(const struct input *input, size_t *used) {
     struct shared *shared = input->call->shared;
-    size_t count;
+    size_t count = 0;
     struct held *held = start_session(input->call, input->memory, input->item);
     if (!held) return NULL;
     struct scratch scratch = take_scratch(shared);

@@ -15,17 +15,19 @@ struct shared *shared_of(PyObject *registry) {
 }
 
 static PyObject *registry_new(PyTypeObject *class, PyObject *args, PyObject *keywords) {
-    static char *names[] = {"data", "metadata", "bits", NULL};
+    static char *names[] = {"data", "metadata", "bits", "_names", NULL};
     PyObject *data, *metadata = Py_None;
-    int has_bits = 0;
+    int has_bits = 0, has_names = 0;
     const uint8_t *bytes;
     size_t length;
-    if (!PyArg_ParseTupleAndKeywords(args, keywords, "O|$Op:Registry", names, &data, &metadata, &has_bits)) return NULL;
+    if (!PyArg_ParseTupleAndKeywords(args, keywords, "O|$Opp:Registry", names, &data, &metadata, &has_bits, &has_names))
+        return NULL;
     PyObject *kept = bytes_of(data, &bytes, &length);
     if (!kept) return NULL;
     int is_metadata = metadata == Py_None ? length >= 4 && !memcmp(bytes, "meta", 4) : PyObject_IsTrue(metadata);
     PyObject *module = is_metadata < 0 ? NULL : module_of(class);
-    uint32_t flags = (is_metadata ? SCALEVIEW_METADATA : 0) | (has_bits ? SCALEVIEW_BITS : 0);
+    uint32_t flags = (is_metadata ? SCALEVIEW_METADATA : 0) | (has_names ? SCALEVIEW_NAMES : 0);
+    flags |= has_bits ? SCALEVIEW_BITS : 0;
     struct shared *shared = module ? open_shared(module, bytes, length, flags) : NULL;
     Py_XDECREF(module);
     Py_DECREF(kept);
@@ -62,18 +64,41 @@ static int read_call(PyObject *self, PyObject *args, PyObject *keywords, const c
     PyObject *type, *depth = NULL, *limit = NULL, *memory = NULL;
     bool is_encoded = names[3] && names[3][0] == 'm';
     PyObject **third = is_encoded ? &memory : &limit, **fourth = is_encoded ? NULL : &memory;
+    int is_opaque = 0;
     if (!keywords && PyTuple_Size(args) == 2) {
         type = PyTuple_GetItem(args, 0);
         call->value = PyTuple_GetItem(args, 1);
-    } else if (!PyArg_ParseTupleAndKeywords(args, keywords, format, names, &type, &call->value, &depth, third, fourth)) {
+    } else if (!PyArg_ParseTupleAndKeywords(args, keywords, format, names, &type, &call->value, &depth, third, fourth,
+                                            &is_opaque)) {
         return -1;
     }
+    call->is_opaque = is_opaque;
     if (read_type(self, type, &call->type) < 0 || read_limits(depth, limit, memory, &call->limits) < 0) return -1;
     call->shared = shared_of(self);
     return call->shared ? 0 : -1;
 }
 
-static char *decode_names[] = {"type", "data", "depth", "limit", "memory", NULL};
+static char *decode_names[] = {"type", "data", "depth", "limit", "memory", "opaque", NULL};
+
+/* Takes the length off the front of an opaque value. */
+static int skip_length(struct input *input) {
+    scaleview_answer answer = {.code = SCALEVIEW_UNKNOWN_TYPE};
+    if (!input->call->is_opaque) return 0;
+    if (input->call->type < input->call->shared->count) scaleview_opaque(input->bytes, input->length, &answer);
+    if (answer.code != SCALEVIEW_OK) return fail_input(input, &answer);
+    input->before = answer.at;
+    input->bytes += answer.at;
+    input->length = (size_t)answer.length;
+    return 0;
+}
+
+/* Reads where the bytes of a value are, and what it may take. Returns what keeps them, or NULL with an exception. */
+static PyObject *read_input(PyObject *data, struct input *input) {
+    PyObject *kept = bytes_of(data, &input->bytes, &input->length);
+    if (kept && skip_length(input) < 0) Py_CLEAR(kept);
+    if (kept) input->memory = budget_of(&input->call->limits, input->length);
+    return kept;
+}
 
 /* Decodes a value by one call of the library, during which no signal is handled. */
 static PyObject *decode_at_once(const struct input *input) {
@@ -98,7 +123,7 @@ static PyObject *decode_at_once(const struct input *input) {
         } else if (code == SCALEVIEW_OK) {
             value = value_of(shared, scratch.nodes, (size_t)answer.length, scratch.bytes);
         } else {
-            raise_answer(shared->state, &answer, call->type, input->item, input->memory);
+            fail_input(input, &answer);
         }
         break;
     }
@@ -108,11 +133,10 @@ static PyObject *decode_at_once(const struct input *input) {
 
 /* Decodes one value. */
 static PyObject *decode_one(const struct call *call, PyObject *data, Py_ssize_t item) {
-    struct input input = {call, NULL, NULL, 0, item, 0, false};
-    PyObject *kept = bytes_of(data, &input.bytes, &input.length), *value;
+    struct input input = {.call = call, .item = item};
+    PyObject *kept = read_input(data, &input), *value;
     size_t used;
     if (!kept) return NULL;
-    input.memory = budget_of(&call->limits, input.length);
     if (input.length >= LONG_VALUE && !is_torn(call->shared))
         value = decode_pieces(&input, &used);
     else
@@ -123,7 +147,7 @@ static PyObject *decode_one(const struct call *call, PyObject *data, Py_ssize_t 
 
 static PyObject *registry_decode(PyObject *self, PyObject *args, PyObject *keywords) {
     struct call call;
-    if (read_call(self, args, keywords, "OO|$OOO:decode", decode_names, &call) < 0) return NULL;
+    if (read_call(self, args, keywords, "OO|$OOOp:decode", decode_names, &call) < 0) return NULL;
     PyObject *value = decode_one(&call, call.value, -1);
     release(call.shared);
     return value;
@@ -147,10 +171,11 @@ static PyObject *front_of(PyObject *data, struct input *input) {
 }
 
 static PyObject *registry_decode_prefix(PyObject *self, PyObject *args, PyObject *keywords) {
+    static char *names[] = {"type", "data", "depth", "limit", "memory", NULL};
     struct call call;
-    struct input input = {&call, NULL, NULL, 0, -1, 0, true};
+    struct input input = {.call = &call, .item = -1, .is_front = true};
     size_t used;
-    if (read_call(self, args, keywords, "OO|$OOO:decode_prefix", decode_names, &call) < 0) return NULL;
+    if (read_call(self, args, keywords, "OO|$OOO:decode_prefix", names, &call) < 0) return NULL;
     PyObject *kept = front_of(call.value, &input), *value = NULL;
     if (kept) {
         input.memory = budget_of(&call.limits, input.length);
@@ -162,9 +187,9 @@ static PyObject *registry_decode_prefix(PyObject *self, PyObject *args, PyObject
 }
 
 static PyObject *registry_decode_many(PyObject *self, PyObject *args, PyObject *keywords) {
-    static char *names[] = {"type", "items", "depth", "limit", "memory", NULL};
+    static char *names[] = {"type", "items", "depth", "limit", "memory", "opaque", NULL};
     struct call call;
-    if (read_call(self, args, keywords, "OO|$OOO:decode_many", names, &call) < 0) return NULL;
+    if (read_call(self, args, keywords, "OO|$OOOp:decode_many", names, &call) < 0) return NULL;
     PyObject *items = PyObject_GetIter(call.value), *values = items ? PyList_New(0) : NULL, *item = NULL;
     for (Py_ssize_t at = 0; values && (item = PyIter_Next(items)); at++) {
         PyObject *value = decode_one(&call, item, at);
@@ -179,47 +204,51 @@ static PyObject *registry_decode_many(PyObject *self, PyObject *args, PyObject *
 }
 
 struct text_call {
-    const struct call *call;
-    const uint8_t *bytes;
-    size_t length;
+    const struct input *input;
     struct scratch *scratch;
     scaleview_answer *answer;
 };
 
 static uint32_t decode_text(void *context) {
     const struct text_call *text = context;
-    const struct limits *limits = &text->call->limits;
-    return scaleview_decode(text->call->shared->registry, text->call->type, limits->depth, limits->limit,
-                            budget_of(limits, text->length), text->bytes, text->length, text->scratch->bytes,
-                            text->scratch->byte_room, text->answer);
+    const struct input *input = text->input;
+    const struct call *call = input->call;
+    return scaleview_decode(call->shared->registry, call->type, call->limits.depth, call->limits.limit, input->memory,
+                            input->bytes, input->length, text->scratch->bytes, text->scratch->byte_room, text->answer);
 }
 
-static PyObject *registry_decode_json(PyObject *self, PyObject *args, PyObject *keywords) {
-    struct call call;
+static PyObject *json_of(const struct input *input) {
+    struct shared *shared = input->call->shared;
+    uint16_t depth = input->call->limits.depth;
     scaleview_answer answer = {SCALEVIEW_MEMORY, 0, 0, 0};
-    const uint8_t *bytes;
-    size_t length;
-    if (read_call(self, args, keywords, "OO|$OOO:decode_json", decode_names, &call) < 0) return NULL;
-    PyObject *kept = bytes_of(call.value, &bytes, &length), *made = NULL;
-    struct scratch scratch = take_scratch(call.shared);
-    size_t room = 4 * (kept ? length : 0) + 256;
-    while (kept && make_room(&scratch, 0, room) == 0) {
-        struct text_call text = {&call, bytes, length, &scratch, &answer};
-        enter(call.shared, false);
-        bool is_long = length >= LONG_INPUT || call.limits.depth > DEPTH;
+    struct scratch scratch = take_scratch(shared);
+    PyObject *made = NULL;
+    size_t room = 4 * input->length + 256;
+    while (make_room(&scratch, 0, room) == 0) {
+        struct text_call text = {input, &scratch, &answer};
+        enter(shared, false);
+        bool is_long = input->length >= LONG_INPUT || depth > DEPTH;
         PyThreadState *state = is_long ? PyEval_SaveThread() : NULL;
-        uint32_t code = with_stack(call.limits.depth, decode_text, &text);
+        uint32_t code = with_stack(depth, decode_text, &text);
         if (state) PyEval_RestoreThread(state);
-        leave(call.shared);
+        leave(shared);
         room = (size_t)answer.length;
         if (code == SCALEVIEW_NO_ROOM) continue;
         if (code == SCALEVIEW_OK)
             made = PyUnicode_FromStringAndSize((const char *)scratch.bytes, (Py_ssize_t)answer.length);
         else
-            raise_answer(call.shared->state, &answer, call.type, -1, budget_of(&call.limits, length));
+            fail_input(input, &answer);
         break;
     }
-    give_scratch(call.shared, scratch);
+    give_scratch(shared, scratch);
+    return made;
+}
+
+static PyObject *registry_decode_json(PyObject *self, PyObject *args, PyObject *keywords) {
+    struct call call;
+    struct input input = {.call = &call, .item = -1};
+    if (read_call(self, args, keywords, "OO|$OOOp:decode_json", decode_names, &call) < 0) return NULL;
+    PyObject *kept = read_input(call.value, &input), *made = kept ? json_of(&input) : NULL;
     Py_XDECREF(kept);
     release(call.shared);
     return made;
@@ -276,6 +305,35 @@ static PyObject *registry_find(PyObject *self, PyObject *args) {
     return found;
 }
 
+/* Reads a name, and returns what a function reports about it. */
+static PyObject *describe_name(PyObject *self, PyObject *args, PyObject *(*report)(struct shared *, PyObject *)) {
+    PyObject *name;
+    if (!PyArg_ParseTuple(args, "U", &name)) return NULL;
+    struct shared *shared = shared_of(self);
+    if (!shared) return NULL;
+    PyObject *made = report(shared, name);
+    release(shared);
+    return made;
+}
+
+static PyObject *registry_name(PyObject *self, PyObject *args) {
+    return describe_name(self, args, find_name);
+}
+
+static PyObject *registry_name_bytes(PyObject *self, PyObject *args) {
+    return describe_name(self, args, bytes_of_name);
+}
+
+static PyObject *registry_name_at(PyObject *self, PyObject *number) {
+    uint64_t index;
+    if (read_number("index", number, UINT32_MAX, &index) < 0) return NULL;
+    struct shared *shared = shared_of(self);
+    if (!shared) return NULL;
+    PyObject *made = name_at(shared, (uint32_t)index);
+    release(shared);
+    return made;
+}
+
 static PyObject *registry_enter(PyObject *self, PyObject *unused) {
     (void)unused;
     return new_ref(self);
@@ -320,7 +378,7 @@ static PyObject *get_closed(PyObject *self, void *unused) {
 static PyGetSetDef getters[] = {
     {"_count", get_count, NULL, NULL, NULL},
     {"version", get_version, NULL, "The version of the metadata, 14 or 15, or None for a registry alone.", NULL},
-    {"end", get_end, NULL, "Where the registry ends, in bytes from the start of the data.", NULL},
+    {"end", get_end, NULL, "Where the registry's own types end, in bytes from the start of the data.", NULL},
     {"closed", get_closed, NULL, "Whether the registry is closed.", NULL},
     {0},
 };
@@ -329,7 +387,7 @@ static PyGetSetDef getters[] = {
 
 static PyMethodDef methods[] = {
     {"decode", (PyCFunction)(void (*)(void))registry_decode, KEYWORDS,
-     "decode($self, /, type, data, *, depth=64, limit=16777216, memory=...)\n--\n\n"
+     "decode($self, /, type, data, *, depth=64, limit=16777216, memory=..., opaque=False)\n--\n\n"
      "Returns the value of a type that all the bytes spell.\n\n"
      "Args:\n"
      "    type: A Type of this registry, or its position.\n"
@@ -337,7 +395,9 @@ static PyMethodDef methods[] = {
      "    depth: The greatest depth of a part, up to 1024; the value itself has depth 0.\n"
      "    limit: The greatest number of bytes of the value, up to 2**40.\n"
      "    memory: The most bytes that the library allocates for it, without the Python objects: 64 MiB and 64\n"
-     "        times the length of `data` if it isn't given. None or 0 sets no bound.\n\n"
+     "        times the length of `data` if it isn't given. None or 0 sets no bound.\n"
+     "    opaque: Whether the value has its length in front, as an extrinsic has. Places count from there; `limit`\n"
+     "        doesn't count the length.\n\n"
      "Raises:\n"
      "    Refused: The value, the type or a limit is rejected, with the reason and the place.\n"
      "    OutOfMemory: An allocation failed, or would have exceeded `memory`.\n"
@@ -345,16 +405,16 @@ static PyMethodDef methods[] = {
      "    TypeError: `data` has no buffer.\n"
      "    ValueError: The registry is closed."},
     {"decode_json", (PyCFunction)(void (*)(void))registry_decode_json, KEYWORDS,
-     "decode_json($self, /, type, data, *, depth=64, limit=16777216, memory=...)\n--\n\n"
+     "decode_json($self, /, type, data, *, depth=64, limit=16777216, memory=..., opaque=False)\n--\n\n"
      "Returns the value as JSON text. The arguments and exceptions are those of `decode`."},
     {"decode_prefix", (PyCFunction)(void (*)(void))registry_decode_prefix, KEYWORDS,
      "decode_prefix($self, /, type, data, *, depth=64, limit=16777216, memory=...)\n--\n\n"
      "Returns the value that the first bytes spell, and how many bytes it takes.\n\n"
-     "What follows the value isn't read. The arguments and exceptions are those of `decode`."},
+     "What follows the value isn't read. The other arguments and exceptions are those of `decode`."},
     {"decode_many", (PyCFunction)(void (*)(void))registry_decode_many, KEYWORDS,
-     "decode_many($self, /, type, items, *, depth=64, limit=16777216, memory=...)\n--\n\n"
-     "Returns a list of the values of one type. The numbers and exceptions are those of `decode`, and hold\n"
-     "for each value; `Refused.item` is the position of a rejected one."},
+     "decode_many($self, /, type, items, *, depth=64, limit=16777216, memory=..., opaque=False)\n--\n\n"
+     "Returns a list of the values of one type. The other arguments and exceptions are those of `decode`, and\n"
+     "hold for each value; `Refused.item` is the position of a rejected one."},
     {"encode", (PyCFunction)(void (*)(void))registry_encode, KEYWORDS,
      "encode($self, /, type, value, *, depth=64, memory=...)\n--\n\n"
      "Returns the bytes of a value, which `decode` turns into an equal value.\n\n"
@@ -378,6 +438,9 @@ static PyMethodDef methods[] = {
     {"_path", registry_path, METH_O, NULL},
     {"_line", registry_line, METH_O, NULL},
     {"_find", registry_find, METH_VARARGS, NULL},
+    {"_name", registry_name, METH_VARARGS, NULL},
+    {"_name_at", registry_name_at, METH_O, NULL},
+    {"_name_bytes", registry_name_bytes, METH_VARARGS, NULL},
     {"__enter__", registry_enter, METH_NOARGS, NULL},
     {"__exit__", registry_exit, METH_VARARGS, NULL},
     {0},

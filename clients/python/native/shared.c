@@ -37,7 +37,7 @@ struct shared *open_shared(PyObject *module, const uint8_t *bytes, size_t length
     if (state) PyEval_RestoreThread(state);
     if (code != SCALEVIEW_OK) {
         free(shared);
-        raise_answer(state_of(module), &answer, 0, -1, 0);
+        raise_unopened(state_of(module), &answer);
         return NULL;
     }
     shared->references = 1;

@@ -12,6 +12,7 @@ from typing import Any, Callable
 
 import registries as make
 from scaleview import Bits, Decoder, Empties, Refused, Registry, Variant
+from test_vectors import metadata_of
 
 testing: Any = None
 with contextlib.suppress(ImportError):
@@ -44,6 +45,7 @@ class Allocations(unittest.TestCase):
             make.registry_of(*map(make.primitive, make.PRIMITIVES), make.members(), make.sequence(15), make.sequence(8))
         )
         bits = make.registry_of(make.primitive("u16"), make.composite(), make.bits(0, 1), _1="bitvec::Msb0")
+        chain = metadata_of("small chain 15")
         value = registry.decode(12, events)
         numbers = [(8, 1 << 255), (14, -(1 << 255)), (13, -(1 << 127)), (16, Empties(5)), (2, "é"), (17, [1 << 200] * 3)]
         wrong = [Variant("Transfer", {"from": (b"",), "to": 5, "amount": 1})]
@@ -83,7 +85,18 @@ class Allocations(unittest.TestCase):
             except Refused:
                 pass
 
+        def named() -> None:
+            opened = Registry(chain, metadata=True, _names=True)
+            opened._name("extrinsic"), opened._name_at(28), opened._name_bytes("constant:Sys.Limit")
+            opened.decode(13, b"\x18\4\1\xd2\4\0\0", opaque=True)
+            for call, name in ((opened._name, "storage:Sys"), (opened._name_bytes, "extrinsic")):
+                try:
+                    call(name)
+                except Refused:
+                    pass
+
         for call in (
+            named,
             described,
             in_pieces,
             rejected,

@@ -1053,14 +1053,15 @@ class Arguments(unittest.TestCase):
 
     @unittest.skipIf(sys.version_info < (3, 11), "older versions know no signatures of such classes")
     def test_signatures_are_shown(self) -> None:
-        rest = "depth=64, limit=16777216, memory=Ellipsis)"
+        rest = "depth=64, limit=16777216, memory=Ellipsis"
         for call, signature in (
             (Registry, "(data, *, metadata=None, bits=False)"),
-            (Registry.decode, f"(self, /, type, data, *, {rest}"),
-            (Registry.decode_prefix, f"(self, /, type, data, *, {rest}"),
-            (Registry.decode_many, f"(self, /, type, items, *, {rest}"),
+            (Registry.decode, f"(self, /, type, data, *, {rest}, opaque=False)"),
+            (Registry.decode_json, f"(self, /, type, data, *, {rest}, opaque=False)"),
+            (Registry.decode_prefix, f"(self, /, type, data, *, {rest})"),
+            (Registry.decode_many, f"(self, /, type, items, *, {rest}, opaque=False)"),
             (Registry.encode, "(self, /, type, value, *, depth=64, memory=Ellipsis)"),
-            (Decoder, f"(registry, type, *, {rest}"),
+            (Decoder, f"(registry, type, *, {rest})"),
             (Decoder.feed, "(self, piece, /)"),
             (Variant, "(name, fields=[], index=None)"),
         ):
@@ -1163,7 +1164,7 @@ class Types(unittest.TestCase):
         for wrong in ("frame_system::AccountInfo", True, None, 1.0, Type):
             message = f"a type is its position or a Type, not '{type(wrong).__name__}'"
             if isinstance(wrong, str):
-                message += "; find() gives the type of a path"
+                message += "; find() gives the type of a path, and type_of() of a Metadata that of a name"
             calls = (registry.decode, registry.decode_prefix, registry.decode_json, registry.decode_many, registry.encode)
             for call in calls:
                 with self.assertRaises(TypeError) as raised:

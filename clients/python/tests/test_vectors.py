@@ -1,16 +1,17 @@
-"""Checks the tables of test vectors: each registry's answer and types, and each value whole, in pieces, as JSON, and back
-from its Python value."""
+"""Checks the tables of test vectors: each registry's answer and types, each value whole, in pieces, as JSON, and back from
+its Python value, and what metadata names."""
 
 from __future__ import annotations
 
 import json
 import pathlib
+import re
 import sys
 import threading
 import unittest
-from typing import Any, Iterator, NamedTuple
+from typing import Any, Iterator, NamedTuple, Optional
 
-from scaleview import Arm, Bits, Decoder, Empties, Refused, Registry, Type, Variant
+from scaleview import Arm, Bits, Decoder, Empties, Metadata, Refused, Registry, Type, Variant
 
 TABLES = pathlib.Path(__file__).resolve().parents[3] / "crates" / "vectors" / "data"
 
@@ -22,6 +23,11 @@ def rows_of(table: str) -> Iterator[list[str]]:
 
 def bytes_of(column: str) -> bytes:
     return b"" if column == "-" else bytes.fromhex(column)
+
+
+def metadata_of(name: str) -> bytes:
+    """The metadata of this name."""
+    return next(bytes_of(row[1]) for row in rows_of("metadata.tsv") if row[0] == name)
 
 
 def told(refused: Refused) -> str:
@@ -219,6 +225,99 @@ class Vectors(unittest.TestCase):
 
 def json_text(text: str) -> str:
     return json.dumps(text, ensure_ascii=False)
+
+
+class Line(NamedTuple):
+    """A command line that decodes by a name or by an ID."""
+
+    name: str
+    has_value: bool
+    is_metadata: bool
+    bits: bool
+    #: What `decode` is given besides.
+    options: dict[str, Any]
+
+    def decode(self, file: bytes, value: bytes) -> str:
+        """The value's JSON."""
+        if self.name.isdigit():
+            registry = Registry(file, metadata=self.is_metadata, bits=self.bits)
+            return shown_both(registry, int(self.name), value, self.options)
+        metadata = Metadata(file, bits=self.bits)
+        found = metadata.type_of(self.name)
+        return shown_both(metadata, found.id, value if self.has_value else found.data, self.options)
+
+
+def shown_both(registry: Registry, type_id: int, value: bytes, options: dict[str, Any]) -> str:
+    """The value's JSON, which is also that of its Python value."""
+    try:
+        decoded = registry.decode(type_id, value, **options)
+    except Refused as refused:
+        decoded = refused
+    found = registry.decode_json(type_id, value, **options)
+    assert dumped(shown(decoded, registry.types[type_id])) == found
+    return found
+
+
+def line_of(words: list[str]) -> Optional[Line]:
+    """What the words after `decode r` ask for, or None if it is more than the package does."""
+    name, rest = words[0], iter(words[1:])
+    options: dict[str, Any] = {"opaque": name == "extrinsic"}
+    flags = {"v": False, "--metadata": False, "--bits": False}
+    for word in rest:
+        if word in flags:
+            flags[word] = True
+        elif word == "--opaque":
+            options["opaque"] = True
+        elif word in ("--depth", "--bytes"):
+            options["depth" if word == "--depth" else "limit"] = int(next(rest))
+        else:
+            return None
+    return Line(name, *flags.values(), options)
+
+
+def listed(file: bytes) -> str:
+    """What the command lists: a name with a control character is a JSON string."""
+    names = ((found.name, found.id) for found in Metadata(file).names())
+    return "".join(f"{json_text(name) if min(name) < ' ' else name} {type_id}\n" for name, type_id in names)
+
+
+def printed(column: str) -> str:
+    """What the command prints, which the tables show with a backslash and n for a line feed, and two for a backslash."""
+    return "" if column == "-" else re.sub(r"\\(.)", lambda found: "\n" if found[1] == "n" else found[1], column)
+
+
+class Names(unittest.TestCase):
+    used = 0
+
+    def test_metadata(self) -> None:
+        for name, digits, answer in rows_of("metadata.tsv"):
+            with self.subTest(name):
+                try:
+                    metadata = Metadata(bytes_of(digits))
+                    own = len(Registry(bytes_of(digits)).types)
+                    found = f"{own} {len(metadata.types)} {len(list(metadata.names()))}"
+                except Refused as refused:
+                    found = str(refused)
+                self.assertEqual(found, answer)
+
+    def check_line(self, words: str, file: bytes, value: bytes, wanted: tuple[str, str]) -> None:
+        line = line_of(words.split(" ")[2:]) if words.startswith("decode r ") else None
+        if not line and words != "names r":
+            return
+        try:
+            found = "0", line.decode(file, value) + "\n" if line else listed(file)
+        except Refused as refused:
+            found = "1", f"scaleview: {refused}\n"
+        self.assertEqual(found, wanted)
+        Names.used += 1
+
+    def test_command_lines(self) -> None:
+        files = {row[0]: bytes_of(row[1]) for row in rows_of("metadata.tsv")}
+        for name, words, file, value, status, out, err in rows_of("chain.tsv"):
+            if status in "01":
+                with self.subTest(name):
+                    self.check_line(words, files[file], bytes_of(value), (status, printed(out if status == "0" else err)))
+        self.assertGreater(Names.used, 270)
 
 
 if __name__ == "__main__":

@@ -6,8 +6,9 @@
     >>> registry.encode(0, 42)
     b'*'
 
-A registry names the types of a chain. `Registry` opens one, or the metadata that begins with it. The
-values of its types are:
+A registry describes the types of a chain. `Registry` opens one, or the metadata that begins with it. `Metadata`
+opens all of a chain's metadata, and finds types by what they are for, such as a storage entry. The values of the
+types are:
 
 - bool, str and int; 256-bit and compact integers are ints, and a char is a str of one character;
 - bytes for sequences and arrays of u8, and a list for others;
@@ -24,6 +25,7 @@ The decoder behind this package is proved; the package is not.
 
 from __future__ import annotations
 
+import itertools
 import os
 from typing import (
     TYPE_CHECKING,
@@ -52,11 +54,13 @@ from ._native import DEPTH, LIMIT, Decoder, Variant
 __version__ = "0.1.0"
 __all__ = [
     "Registry",
+    "Metadata",
     "Decoder",
     "Variant",
     "Empties",
     "Bits",
     "Type",
+    "Named",
     "Field",
     "Arm",
     "Refused",
@@ -73,6 +77,7 @@ else:
     Buffer = Any
 
 _R = TypeVar("_R", bound="Registry")
+_M = TypeVar("_M", bound="Metadata")
 
 # In a child process no call of the parent's threads is under way.
 os.register_at_fork(after_in_child=_native._after_fork)
@@ -171,6 +176,40 @@ class Type:
         return f"<Type {self.id} {' '.join(filter(None, (self.kind, self.path)))}>"
 
 
+class Named(Type):
+    """A type by the name that metadata gives to it, such as "storage:System.Account"."""
+
+    __slots__ = ("name", "has_bytes")
+
+    def __init__(self, metadata: Metadata, type_id: int, name: str, has_bytes: bool) -> None:
+        super().__init__(metadata, type_id)
+        #: The name as a whole.
+        self.name = name
+        #: Whether the metadata has bytes for it: those of a constant, a custom value or a storage entry's default.
+        self.has_bytes = has_bytes
+
+    @property
+    def data(self) -> bytes:
+        """The bytes that the metadata has for it, which need not be a value.
+
+        Raises:
+            Refused: It has none.
+        """
+        return self.registry._name_bytes(self.name)
+
+    def value(self) -> Any:
+        """Returns the value that the metadata has for it: that of a constant, or the default of a storage entry.
+
+        Raises:
+            Refused: The metadata has none, or the bytes are rejected, with the reason and the place in them.
+            OutOfMemory: An allocation failed, or the value wants too much memory.
+        """
+        return self.registry.decode(self.id, self.data)
+
+    def __repr__(self) -> str:
+        return f"<Named {self.name}, type {self.id}>"
+
+
 class Types(Sequence[Type]):
     """The types of a registry by position. Each is made when it is asked for."""
 
@@ -251,3 +290,106 @@ class Registry(_native.Registry):
             return "<Registry, closed>"
         version = "" if self.version is None else f", metadata {self.version}"
         return f"<Registry of {len(self.types)} types{version}>"
+
+
+class Metadata(Registry):
+    """A chain's metadata of version 14 or 15, with the names that it gives to types.
+
+    It is a registry. Its own types are followed by synthetic ones: those of extrinsics, of storage keys and of what
+    the methods of runtime APIs take, and the few small types that these need.
+
+    Each method that is given names returns the type as a `Named`, and raises `Refused` with the reason UnknownName if
+    there is none.
+
+    Raises:
+        Refused: The bytes are rejected, with the reason and the place.
+        OutOfMemory: An allocation failed.
+        TypeError: `data` has no buffer.
+    """
+
+    def __new__(cls: type[_M], data: Buffer, *, bits: bool = False) -> _M:
+        return super().__new__(cls, data, metadata=True, bits=bits, _names=True)
+
+    @classmethod
+    def raw(cls: type[_R], data: Buffer, *, bits: bool = False) -> _R:
+        """Raises TypeError: a registry that stands alone has no names. `Registry.raw` opens one."""
+        raise TypeError("a registry that stands alone has no names: open it by Registry.raw")
+
+    def type_of(self, name: str) -> Named:
+        """Returns the type of a name as a whole, such as "storage:System.Account"."""
+        type_id, has_bytes = self._name(name)
+        return Named(self, type_id, name, has_bytes)
+
+    def names(self) -> Iterator[Named]:
+        """Iterates over the types that have names, in the order of the metadata."""
+        for index in itertools.count():
+            found = self._name_at(index)
+            if found is None:
+                return
+            name, type_id, has_bytes = found
+            yield Named(self, type_id, name, has_bytes)
+
+    def storage(self, pallet: str, entry: str) -> Named:
+        """Returns the type of a storage entry's value. It has bytes if absent values have a default."""
+        return self.type_of(f"storage:{pallet}.{entry}")
+
+    def key(self, pallet: str, entry: str) -> Named:
+        """Returns the type of a storage entry's keys: a composite of the hashes of the pallet's and the entry's name,
+        and of what each hasher writes. Hashes are not compared."""
+        return self.type_of(f"key:{pallet}.{entry}")
+
+    def constant(self, pallet: str, name: str) -> Named:
+        """Returns the type of a constant, whose `value()` the metadata has."""
+        return self.type_of(f"constant:{pallet}.{name}")
+
+    def calls(self, pallet: str) -> Named:
+        """Returns the type of a pallet's calls."""
+        return self.type_of(f"calls:{pallet}")
+
+    def events(self, pallet: str) -> Named:
+        """Returns the type of a pallet's events."""
+        return self.type_of(f"events:{pallet}")
+
+    def errors(self, pallet: str) -> Named:
+        """Returns the type of a pallet's errors."""
+        return self.type_of(f"errors:{pallet}")
+
+    def extrinsic(self) -> Named:
+        """Returns the type of extrinsics. In a block they have their length in front: see `decode_extrinsic`."""
+        return self.type_of("extrinsic")
+
+    def call(self) -> Named:
+        """Returns the type of the calls of all pallets."""
+        return self.type_of("call")
+
+    def event(self) -> Named:
+        """Returns the type of the events of all pallets, which metadata of version 14 doesn't name."""
+        return self.type_of("event")
+
+    def error(self) -> Named:
+        """Returns the type of the errors of all pallets, which metadata of version 14 doesn't name."""
+        return self.type_of("error")
+
+    def result(self, api: str, method: str) -> Named:
+        """Returns the type of what a method of a runtime API returns. Metadata of version 14 names no methods."""
+        return self.type_of(f"result:{api}.{method}")
+
+    def params(self, api: str, method: str) -> Named:
+        """Returns the type of what a method of a runtime API takes: a composite with a field for each input."""
+        return self.type_of(f"params:{api}.{method}")
+
+    def custom(self, name: str) -> Named:
+        """Returns the type of a custom value, whose `value()` the metadata has. Version 14 has none."""
+        return self.type_of(f"custom:{name}")
+
+    def decode_extrinsic(
+        self, data: Buffer, *, depth: int = DEPTH, limit: int = LIMIT, memory: Any = ...
+    ) -> Any:
+        """Returns an extrinsic as it stands in a block, with its length in front, which places count as well.
+
+        The arguments and exceptions are those of `decode`, and UnknownName if the metadata doesn't name extrinsics.
+        """
+        return self.decode(self.extrinsic(), data, depth=depth, limit=limit, memory=memory, opaque=True)
+
+    def __repr__(self) -> str:
+        return "<Metadata, closed>" if self.closed else f"<Metadata {self.version} of {len(self.types)} types>"

@@ -2,6 +2,7 @@
 
 from __future__ import annotations
 
+import json
 import operator
 from typing import Any, Iterable, Iterator, Optional, Sequence, SupportsIndex, Union, overload
 
@@ -17,6 +18,7 @@ class Refused(ValueError):
         from_type: The position of the type that refers to one that doesn't exist, or None.
         to_type: The position of a type that doesn't exist, or None.
         item: The position of the rejected item of `decode_many`, or None.
+        name: The name that metadata doesn't have, or has no bytes for, or None.
     """
 
     def __init__(
@@ -28,6 +30,7 @@ class Refused(ValueError):
         from_type: Optional[int] = None,
         to_type: Optional[int] = None,
         item: Optional[int] = None,
+        name: Optional[str] = None,
     ) -> None:
         self.code = code
         self.reason = reason
@@ -36,12 +39,15 @@ class Refused(ValueError):
         self.from_type = from_type
         self.to_type = to_type
         self.item = item
-        super().__init__(code, reason, part, place, from_type, to_type, item)
+        self.name = name
+        super().__init__(code, reason, part, place, from_type, to_type, item, name)
 
     def __str__(self) -> str:
         text = f"{self.part}: {self.reason}"
+        if self.name is not None:
+            text += " " + json.dumps(self.name, ensure_ascii=False)
         if self.to_type is not None:
-            text += f" {self.to_type}"
+            text += f" to type {self.to_type}" if self.part == "registry" else f" {self.to_type}"
         if self.from_type is not None:
             text += f" in type {self.from_type}"
         if self.place is not None:
