@@ -1,6 +1,7 @@
 /* Measures how much stack calls need: the smallest multiple of 4 KiB with which a thread makes a call on a value of a given
  * depth. A stack that is too small ends the process, so each size is tried in a process of its own. */
 #define _DEFAULT_SOURCE
+#include "chain_bytes.h"
 #include "registry_bytes.h"
 #include "scaleview.h"
 #include <pthread.h>
@@ -143,6 +144,17 @@ static bool describes(void) {
            scaleview_type(value.registry, 0, &shape, &answer) == SCALEVIEW_OK;
 }
 
+static bool asks_for_names(void) {
+    static const uint8_t name[] = "custom:Owner", opaque[] = {0x04, 0x07};
+    scaleview_registry registry = {NULL};
+    scaleview_answer answer;
+    scaleview_open(chain_bytes, sizeof chain_bytes, SCALEVIEW_METADATA | SCALEVIEW_NAMES, &registry, &answer);
+    return scaleview_name(registry, name, sizeof name - 1, &answer) == SCALEVIEW_OK &&
+           scaleview_name_bytes(registry, name, sizeof name - 1, value.out, OUT_ROOM, &answer) == SCALEVIEW_OK &&
+           scaleview_name_at(registry, 0, value.out, OUT_ROOM, &answer) == SCALEVIEW_OK &&
+           scaleview_opaque(opaque, sizeof opaque, &answer) == SCALEVIEW_OK && scaleview_close(&registry) == SCALEVIEW_OK;
+}
+
 struct call {
     const char *name;
     bool (*make)(void);
@@ -185,7 +197,7 @@ static size_t needed(const struct call *call) {
 
 static const struct call texts[] = {{"decode", decodes}, {"finish", finishes}};
 static const struct call others[] = {
-    {"open", opens}, {"describe", describes},
+    {"open", opens}, {"describe", describes}, {"names", asks_for_names},
     {"decode_nodes", decodes_nodes}, {"encode_nodes", encodes_nodes},
     {"feed", feeds}, {"finish_nodes", finishes_nodes},
 };

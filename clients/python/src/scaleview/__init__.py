@@ -202,7 +202,7 @@ class Named(Type):
 
         Raises:
             Refused: The metadata has none, or the bytes are rejected, with the reason and the place in them.
-            OutOfMemory: An allocation failed, or the value wants too much memory.
+            OutOfMemory: An allocation failed, or would have exceeded the bound of `decode`.
         """
         return self.registry.decode(self.id, self.data)
 
@@ -247,7 +247,8 @@ class Registry(_native.Registry):
     """An open registry of types.
 
     `data` holds a registry's bytes, or a chain's metadata of version 14 or 15, which is recognised by its
-    four letters "meta". With `metadata=True` it has to be metadata, and with `metadata=False` a registry.
+    four letters "meta". With `metadata=True` it has to be metadata, and with `metadata=False` a registry. The
+    names that metadata gives to types are read by `Metadata` alone.
 
     With `bits=True` it reads values of bit sequences. The store of such a type has to be u8, u16, u32 or u64,
     and its order a composite without fields whose path ends with Lsb0 or Msb0. Values of other bit sequences are
