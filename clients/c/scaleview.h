@@ -91,8 +91,8 @@ enum scaleview_code {
     SCALEVIEW_NODES_BIT_SEQUENCE = 403,   /* its type is a bit sequence that the registry doesn't read */
     SCALEVIEW_NODES_BAD_COMPACT = 404,    /* its type is a compact that wraps no unsigned integer */
     SCALEVIEW_NODES_WRONG_KIND = 405,     /* it is of another kind than its type, of no kind, or follows a complete value */
-    SCALEVIEW_NODES_OUT_OF_RANGE = 406,   /* a number, a length, a range of the pool or a number of children is out of range,
-                                           * or an unused bit is 1 */
+    SCALEVIEW_NODES_OUT_OF_RANGE = 406,   /* a number, a length, a range of the pool or a number of children is out of range, a
+                                           * number without a meaning is not 0, or an unused bit is 1 */
     SCALEVIEW_NODES_NO_SUCH_VARIANT = 407, /* no arm has this position, or an earlier arm has its index */
     SCALEVIEW_NODES_UNFINISHED_VALUE = 408, /* a node is missing; `at` is the number of nodes */
     SCALEVIEW_NODES_BAD_TEXT = 409        /* a text is not UTF-8 */
@@ -323,8 +323,9 @@ uint32_t scaleview_name(scaleview_registry registry, const uint8_t *name, size_t
  * from 0 on in the order of the command's `names`, where each name stands once. `answer->from` is the position of its type,
  * and `answer->at` is 1 if the metadata has bytes for it and otherwise 0.
  *
- * After SCALEVIEW_NO_ROOM the numbers are the same, and `out` is unchanged. Otherwise the call returns SCALEVIEW_UNKNOWN_NAME
- * if there are no more names, or SCALEVIEW_NO_HANDLE, and `out` is unchanged. */
+ * The time doesn't depend on the index. After SCALEVIEW_NO_ROOM the numbers are the same, and `out` is unchanged. Otherwise the
+ * call returns SCALEVIEW_UNKNOWN_NAME if there are no more names, SCALEVIEW_MEMORY or SCALEVIEW_NO_HANDLE, and `out` is
+ * unchanged. */
 uint32_t scaleview_name_at(scaleview_registry registry, uint32_t index, uint8_t *out, size_t room, scaleview_answer *answer);
 
 /* Writes the bytes that the metadata has for a name to the front of `out`: `answer->length` bytes. They are the value of a
@@ -381,8 +382,8 @@ uint32_t scaleview_decode_nodes(scaleview_registry registry, uint32_t type, uint
  * `memory` is the most bytes that the library allocates at once for the value and its bytes; 0 stands for no budget.
  *
  * Of a node, `type` is read only if it is a SCALEVIEW_NODE_BITS: it has to be the node's own type, which says how many bytes
- * its words have. `low` of a composite, a tuple, a variant or a list is not read. Two nodes may have the same bytes of the
- * pool.
+ * its words have. `low` of a composite, a tuple, a variant or a list is not read. Every other number that its kind gives no
+ * meaning has to be 0. Two nodes may have the same bytes of the pool.
  *
  * Otherwise it returns SCALEVIEW_NO_ROOM, SCALEVIEW_UNKNOWN_TYPE, SCALEVIEW_LIMIT_OUT_OF_RANGE, SCALEVIEW_MEMORY,
  * SCALEVIEW_NO_HANDLE, or a code of SCALEVIEW_NODES_* with the position of the first node that is rejected in
