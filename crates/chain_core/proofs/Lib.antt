@@ -1,4 +1,5 @@
--- For each module, where its proofs begin: NameTexts for finding and names, SyntheticCounts for synthetic.
+-- For each module, where its proofs begin: NameTexts for finding and names, SyntheticCounts for
+-- synthetic.
 pub mod NameTexts
 pub mod OwnReferences
 pub mod SyntheticCounts

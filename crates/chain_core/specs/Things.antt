@@ -1,5 +1,6 @@
 -- Things that metadata names.
-use Rattle.std.specs.Prelude.{◌≡◌, ℕ, List, [], ◌∷◌, ◌++◌, codes, map, Option, option_map, string_bytes}
+use Rattle.std.specs.Prelude.{◌≡◌, ℕ, List, [], ◌∷◌, ◌++◌, codes, map, Option, option_map}
+use Rattle.std.specs.Prelude.{string_bytes}
 use Rattle.std.specs.Rc.{rc_str_bytes}
 use Rattle.node_core.specs.Shown.{Seen}
 use Rattle.chain_core.specs.declared.extrinsics.ExtrinsicTypes.{ExtrinsicTypes}

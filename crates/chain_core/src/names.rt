@@ -83,7 +83,8 @@ fn named_types(
     own: u32,
 ) -> Result<Vec<NamedType>, AllocError>
     requires { own + length things.items < 2 ^ 32 }
-    ensures { IfOk result (λ types. types_of types.items ≡ placed (all_named things.entry.items) own) }
+    ensures { IfOk result (λ types.
+        types_of types.items ≡ placed (all_named things.entry.items) own) }
 {
     let mut types = Vec::with_capacity(alloc, things.len())?;
     let mut free = own;
@@ -126,7 +127,8 @@ impl Names {
     /// `AllocError` if an allocation fails.
     pub fn new(alloc: Global, things: Vec<Thing<'_, '_>>, own: u32) -> Result<Names, AllocError>
         requires { own + length things.items < 2 ^ 32 }
-        ensures { IfOk result (λ names. entries_of names ≡ placed (all_named things.entry.items) own) }
+        ensures { IfOk result (λ names.
+            entries_of names ≡ placed (all_named things.entry.items) own) }
     {
         let types = named_types(alloc, things, own)?;
         let distinct = distinct_positions(alloc, types.as_slice())?;

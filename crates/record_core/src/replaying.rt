@@ -251,9 +251,9 @@ fn add<A: Allocator>(
 ///   (`OutOfRange`), or an allocation fails (`OutOfMemory`).
 /// - `Record` with the position of the first record that is rejected, and why. By itself it has a
 ///   kind that there is not (`WrongKind`), a number outside the range of its kind, one without a
-///   meaning that isn't 0, or a range that isn't in the pool (`OutOfRange`), or a text that is not UTF-8 (`BadText`). Else it is rejected
-///   by the builder, as [`Builder::empty`] and the other calls say; a number of children that isn't
-///   the one of its type is `OutOfRange`.
+///   meaning that isn't 0, or a range that isn't in the pool (`OutOfRange`), or a text that is not
+///   UTF-8 (`BadText`). Else it is rejected by the builder, as [`Builder::empty`] and the other
+///   calls say; a number of children that isn't the one of its type is `OutOfRange`.
 /// - `Record` with the number of records, and `UnfinishedValue`, if a node is missing.
 pub fn value_of_records<'r, A: Allocator + Clone>(
     alloc: A,

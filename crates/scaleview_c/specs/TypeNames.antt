@@ -36,7 +36,8 @@ ReportsName None name a = a ≡ plain 5
 
 -- a name is written, with the numbers of its type, unless an allocation failed
 abbrev pub WritesEntry : Entry → List ℕ → List ℕ → Answer → Type 0
-WritesEntry e old new a = Leaves old new (plain 3) a ⊎ WritesName e.name e.id (has_bytes e) old new a
+WritesEntry e old new a = Leaves old new (plain 3) a
+    ⊎ WritesName e.name e.id (has_bytes e) old new a
 
 -- one of the names is written; or the answer says that there are no more
 abbrev pub WritesNameAt : Option Resource → List ℕ → List ℕ → Answer → Type 0

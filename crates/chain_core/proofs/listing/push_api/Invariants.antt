@@ -11,7 +11,8 @@ abbrev pub invariant-methods : goal.invariant-methods
 invariant-methods l = record {
   can : (goal.iterator-methods).can_next l.method-iterator;
   ends : (goal.iterator-methods).is_finite l.method-iterator;
-  reported : all_named l.things.items ++ flat_map (method_things (rc_str_bytes l.name)) l.method-iterator
+  reported : all_named l.things.items
+      ++ flat_map (method_things (rc_str_bytes l.name)) l.method-iterator
       ≡ all_named l.initial.things.items
       ++ flat_map (method_things (rc_str_bytes l.name)) (children_in (child 1 l.api));
 }

@@ -10,7 +10,8 @@ abbrev pub invariant-constants : goal.invariant-constants
 invariant-constants l = record {
   can : (goal.iterator-constants).can_next l.constant-iterator;
   ends : (goal.iterator-constants).is_finite l.constant-iterator;
-  reported : all_named l.things.items ++ flat_map (constant_thing (rc_str_bytes l.pallet)) l.constant-iterator
+  reported : all_named l.things.items
+      ++ flat_map (constant_thing (rc_str_bytes l.pallet)) l.constant-iterator
       ≡ all_named l.initial.things.items
       ++ flat_map (constant_thing (rc_str_bytes l.pallet)) (children_in l.fn.list);
 }

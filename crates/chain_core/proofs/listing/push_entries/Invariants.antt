@@ -10,7 +10,8 @@ abbrev pub invariant-entries : goal.invariant-entries
 invariant-entries l = record {
   can : (goal.iterator-entries).can_next l.entry-iterator;
   ends : (goal.iterator-entries).is_finite l.entry-iterator;
-  reported : all_named l.things.items ++ flat_map (entry_things l.own (rc_str_bytes l.pallet)) l.entry-iterator
+  reported : all_named l.things.items
+      ++ flat_map (entry_things l.own (rc_str_bytes l.pallet)) l.entry-iterator
       ≡ all_named l.initial.things.items
       ++ flat_map (entry_things l.own (rc_str_bytes l.pallet)) (children_in l.fn.list);
 }
