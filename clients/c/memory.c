@@ -110,7 +110,7 @@ static int run(long request) {
     return wants + wanted;
 }
 
-/* A chain with its names, which are asked for without memory. Says how many calls wanted memory. */
+/* A chain with its names, of which only one by its index wants memory. Says how many calls wanted memory. */
 static int run_names(long request) {
     static const uint8_t name[] = "custom:Owner";
     scaleview_registry registry = {NULL};
@@ -122,9 +122,10 @@ static int run_names(long request) {
     check("a name", scaleview_name(registry, name, sizeof name - 1, &answer) == SCALEVIEW_OK, request);
     code = scaleview_name_bytes(registry, name, sizeof name - 1, out, sizeof out, &answer);
     check("its bytes", code == SCALEVIEW_OK, request);
-    check("a name by its index", scaleview_name_at(registry, 0, out, sizeof out, &answer) == SCALEVIEW_OK, request);
+    code = scaleview_name_at(registry, 0, out, sizeof out, &answer);
+    check("a name by its index", is_answer(code), request);
     check("closed", scaleview_close(&registry) == SCALEVIEW_OK, request);
-    return 0;
+    return code == SCALEVIEW_MEMORY;
 }
 
 /* Makes this run until none of its requests is left to be refused. */
