@@ -57,7 +57,6 @@ pub(crate) fn defined_arm<'r>(node: &NodeRef<'_, 'r>, position: u32) -> Option<&
 
 /// Returns where the bits of the node's type stand in their words, if that is a bit sequence whose
 /// words are known.
-#[inline(never)]
 pub(crate) fn bit_form(node: &NodeRef<'_, '_>) -> Option<BitForm>
     ensures { result ≡ declared_bits (shape node.now.types node.now.ty) }
 {

@@ -76,8 +76,6 @@ fn write_wide<A: Allocator>(out: &mut Output<A>, bytes: [u8; 32]) -> Result<(), 
 }
 
 /// Writes a bit sequence as a text of its digits, or null if its words are not known.
-// Out of line, like `bit_form`, so that the loops over children have no code for it.
-#[inline(never)]
 fn write_bits<A: Allocator>(
     out: &mut Output<A>,
     form: Option<BitForm>,

@@ -8,8 +8,8 @@ use Rattle.decode_core.specs.Streaming.{query_of}
 use Rattle.scale_calls.specs.Values.{ReadsValue}
 use Rattle.scale_calls.specs.declared.refusal.ValueRefusal.TheVariants as value
 use Rattle.scaleview_c.specs.Calls.{Leaves, WritesJson, WritesUnlessMemory}
-use Rattle.scaleview_c.specs.Codes.{plain}
-use Rattle.scaleview_c.specs.declared.codes.Answer.{Answer}
+use Rattle.c_answers.specs.Codes.{plain}
+use Rattle.c_answers.specs.declared.answer.Answer.{Answer}
 use Rattle.scaleview_c.specs.declared.opened.Opened.{Opened}
 
 -- an allocation failure is one of the reasons why no JSON is written

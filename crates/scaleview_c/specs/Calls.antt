@@ -24,11 +24,11 @@ use Rattle.scale_calls.specs.declared.refusal.RegistryRefusal.{RegistryRefusal}
 use Rattle.scale_calls.specs.declared.registry.OpenOptions.{OpenOptions}
 use Rattle.scale_calls.specs.declared.refusal.ValueRefusal.{ValueRefusal}
 use Rattle.scale_calls.specs.declared.refusal.ValueRefusal.TheVariants as value
-use Rattle.scaleview_c.specs.Codes.{count_answer, metadata_answer, opened_answer, plain}
-use Rattle.scaleview_c.specs.Codes.{progress_answer}
-use Rattle.scaleview_c.specs.Codes.{registry_answer, text_answer}
-use Rattle.scaleview_c.specs.Codes.{value_answer}
-use Rattle.scaleview_c.specs.declared.codes.Answer.{Answer}
+use Rattle.c_answers.specs.Codes.{count_answer, metadata_answer, opened_answer, plain}
+use Rattle.c_answers.specs.Codes.{progress_answer}
+use Rattle.c_answers.specs.Codes.{registry_answer, text_answer}
+use Rattle.c_answers.specs.Codes.{value_answer}
+use Rattle.c_answers.specs.declared.answer.Answer.{Answer}
 use Rattle.scaleview_c.specs.declared.resource.Resource.{Resource}
 use Rattle.scaleview_c.specs.declared.resource.Resource.TheVariants as held
 use Rattle.scaleview_c.specs.declared.opened.Opened.{Opened}

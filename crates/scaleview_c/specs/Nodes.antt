@@ -20,8 +20,8 @@ use Rattle.record_core.specs.declared.replaying.RecordFault.TheVariants as recor
 use Rattle.scale_calls.specs.Values.{ReadsValue}
 use Rattle.scale_calls.specs.declared.refusal.ValueRefusal.{ValueRefusal}
 use Rattle.scaleview_c.specs.Calls.{Ends, Leaves, Writes}
-use Rattle.scaleview_c.specs.Codes.{plain, records_answer, value_answer}
-use Rattle.scaleview_c.specs.declared.codes.Answer.{Answer}
+use Rattle.c_answers.specs.Codes.{plain, records_answer, value_answer}
+use Rattle.c_answers.specs.declared.answer.Answer.{Answer}
 use Rattle.scaleview_c.specs.declared.opened.Opened.{Opened}
 use Rattle.scaleview_c.specs.declared.resource.Resource.{Resource}
 use Rattle.scaleview_c.specs.declared.resource.Resource.TheVariants as held

@@ -5,9 +5,9 @@ use Rattle.chain_core.specs.Names.{Entry, find}
 use Rattle.scale_calls.specs.Opaque.{opaque_start}
 use Rattle.scale_calls.specs.declared.refusal.ValueRefusal.{ValueRefusal}
 use Rattle.scaleview_c.specs.Calls.{Leaves, Writes, names_in}
-use Rattle.scaleview_c.specs.Codes.{plain, value_answer}
+use Rattle.c_answers.specs.Codes.{plain, value_answer}
 use Rattle.scaleview_c.specs.Types.{WritesName}
-use Rattle.scaleview_c.specs.declared.codes.Answer.{Answer}
+use Rattle.c_answers.specs.declared.answer.Answer.{Answer}
 use Rattle.scaleview_c.specs.declared.resource.Resource.{Resource}
 use Rattle.scaleview_c.specs.declared.resource.Resource.TheVariants as held
 

@@ -13,8 +13,8 @@ use Rattle.scale_calls.specs.Describing.{type_part, type_path}
 use Rattle.scale_calls.specs.declared.describing.PartRefusal.{PartRefusal}
 use Rattle.scale_calls.specs.declared.describing.PartRefusal.TheVariants as refusal
 use Rattle.scaleview_c.specs.Calls.{Leaves, WritesKnown}
-use Rattle.scaleview_c.specs.Codes.{plain}
-use Rattle.scaleview_c.specs.declared.codes.Answer.{Answer}
+use Rattle.c_answers.specs.Codes.{plain}
+use Rattle.c_answers.specs.declared.answer.Answer.{Answer}
 use Rattle.scaleview_c.specs.declared.resource.Resource.{Resource}
 use Rattle.scaleview_c.specs.declared.resource.Resource.TheVariants as held
 use Rattle.scaleview_c.specs.declared.types.TypeShape.{TypeShape}

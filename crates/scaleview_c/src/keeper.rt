@@ -5,9 +5,9 @@ ghost use Rattle.scaleview_c.specs.Kept.{AnswersClose, Lends, TakesBack};
 ghost use Rattle.scaleview_c.specs.declared.resource.Resource.{Resource as AHeld};
 ghost use Rattle.scaleview_c.specs.declared.opened.Opened.{Opened as AnOpened};
 
-use crate::codes::{LENT, NO_HANDLE, OK};
 use crate::opened::Opened;
 use crate::resource::Resource;
+use c_answers::{LENT, NO_HANDLE, OK};
 
 /// A keeper takes boxes back and knows how many sessions a registry has.
 // No clause of the library says that a block was freed or what a cell holds. So both are relations

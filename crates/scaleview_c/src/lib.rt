@@ -3,7 +3,6 @@
 #![tactic(auto)]
 
 mod box_parts;
-mod codes;
 mod handle;
 mod keeper;
 mod lent;

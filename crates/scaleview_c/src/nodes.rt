@@ -6,7 +6,6 @@ ghost use Rattle.value_core.specs.Refusals.{build_opening_fault};
 ghost use Rattle.scaleview_c.specs.Nodes.{DecodesNodes, Encodes, EncodesNodes};
 ghost use Rattle.scaleview_c.specs.Nodes.{FinishesNodes, PutsNodes, PutsStage, WritesValueNodes};
 
-use crate::codes::{Answer, MEMORY, MORE, NO_HANDLE, NO_ROOM, OK};
 use crate::handle::{Handle, handle_of, held_by};
 use crate::lent::Lent;
 use crate::opened::Opened;
@@ -14,6 +13,7 @@ use crate::resource::Resource;
 use crate::session::Stage;
 use crate::text::put;
 use budget_core::Budget;
+use c_answers::{Answer, MEMORY, MORE, NO_HANDLE, NO_ROOM, OK};
 use record_core::{Record, RecordFault, value_of_records, write_records};
 use registry_core::TypeId;
 use scale_calls::{ValueRefusal, read_value};

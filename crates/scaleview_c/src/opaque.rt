@@ -3,7 +3,7 @@
 ghost use Rattle.std.specs.Prelude.{◌≡◌};
 ghost use Rattle.scaleview_c.specs.TypeNames.{opaque_answer};
 
-use crate::codes::{Answer, OK};
+use c_answers::{Answer, OK};
 use scale_calls::opaque_start;
 
 /// Reports where an opaque value begins, after its length, and how many bytes it has.

@@ -6,7 +6,6 @@ ghost use Rattle.scaleview_c.specs.Calls.{OpensMetadata, OpensRegistry, ReportsT
 ghost use Rattle.scaleview_c.specs.Calls.{WritesLine, WritesValue, options_of, reads_names};
 ghost use Rattle.scaleview_c.specs.Kept.{CountsOpen, GivesRegistry};
 
-use crate::codes::{Answer, MEMORY, NO_HANDLE, OK, TAKEN, UNKNOWN_TYPE};
 use crate::handle::{Handle, handle_of, held_by};
 use crate::keeper::{Heap, Keeper, close_code};
 use crate::lent::Lent;
@@ -14,6 +13,7 @@ use crate::opened::Opened;
 use crate::resource::Resource;
 use crate::text::{put, put_json};
 use budget_core::Budget;
+use c_answers::{Answer, MEMORY, NO_HANDLE, OK, TAKEN, UNKNOWN_TYPE};
 use scale_calls::{
     MetadataRefusal, NamedMetadata, OpenOptions, OpenedRegistry, RegistryRefusal, open_metadata,
     open_registry, read_value, type_line,

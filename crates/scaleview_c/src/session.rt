@@ -4,10 +4,10 @@ ghost use Rattle.std.specs.Prelude.{◌≡◌};
 ghost use Rattle.scaleview_c.specs.Calls.{Ends, FeedsStage, WritesStage, bytes_taken, nodes_held};
 ghost use Rattle.scaleview_c.specs.Calls.{text_bytes_held};
 
-use crate::codes::{Answer, MORE, OK};
 use crate::opened::Opened;
 use crate::text::put_json;
 use budget_core::Budget;
+use c_answers::{Answer, MORE, OK};
 use decode_core::Decoder;
 use scale_calls::ValueRefusal;
 use std::alloc::Global;

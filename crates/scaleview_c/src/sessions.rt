@@ -6,7 +6,6 @@ ghost use Rattle.scaleview_c.specs.Calls.{ReportsCount, StartsHandle};
 ghost use Rattle.scaleview_c.specs.Calls.{bytes_taken, nodes_held, text_bytes_held};
 ghost use Rattle.scaleview_c.specs.Kept.{CountsStart, GivesSession};
 
-use crate::codes::{Answer, NO_HANDLE, OK, TAKEN};
 use crate::handle::{Handle, handle_of, held_by};
 use crate::keeper::{Heap, Keeper, lend, take_back};
 use crate::lent::Lent;
@@ -14,6 +13,7 @@ use crate::opened::Opened;
 use crate::resource::Resource;
 use crate::session::{Session, Stage};
 use budget_core::Budget;
+use c_answers::{Answer, NO_HANDLE, OK, TAKEN};
 use decode_core::Decoder;
 use registry_core::TypeId;
 use scale_calls::ValueRefusal;

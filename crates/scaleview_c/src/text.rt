@@ -3,8 +3,8 @@
 ghost use Rattle.json_core.specs.Json.{json_text};
 ghost use Rattle.scaleview_c.specs.Calls.{Writes, WritesUnlessMemory};
 
-use crate::codes::{Answer, MEMORY};
 use budget_core::Budget;
+use c_answers::{Answer, MEMORY};
 use json_core::json_to_slice;
 use std::alloc::Global;
 use value_core::Value;

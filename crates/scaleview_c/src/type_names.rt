@@ -6,12 +6,12 @@ ghost use Rattle.scaleview_c.specs.Calls.{names_in};
 ghost use Rattle.scaleview_c.specs.TypeNames.{ReportsName, WritesBytes, WritesNameAt, WritesSome};
 ghost use Rattle.scaleview_c.specs.TypeNames.{WritesEntry, entry_answer, has_bytes};
 
-use crate::codes::{Answer, MEMORY, NO_BYTES, NO_HANDLE, OK, UNKNOWN_NAME};
 use crate::lent::Lent;
 use crate::opened::Opened;
 use crate::resource::Resource;
 use crate::text::put;
 use crate::types::put_name;
+use c_answers::{Answer, MEMORY, NO_BYTES, NO_HANDLE, OK, UNKNOWN_NAME};
 use chain_core::NamedType;
 use std::alloc::Global;
 

@@ -9,10 +9,10 @@ ghost use Rattle.scaleview_c.specs.Types.{WritesName, WritesPart, WritesPath, Wr
 ghost use Rattle.scaleview_c.specs.Types.{class_number, kind_number, part_code, plain_shape};
 ghost use Rattle.scaleview_c.specs.Types.{shape_numbers};
 
-use crate::codes::{Answer, MEMORY, NO_HANDLE, OK, UNKNOWN_PART, UNKNOWN_TYPE};
 use crate::lent::Lent;
 use crate::resource::Resource;
 use crate::text::put;
+use c_answers::{Answer, MEMORY, NO_HANDLE, OK, UNKNOWN_PART, UNKNOWN_TYPE};
 use registry_core::{Primitive, TypeDef};
 use scale_calls::{
     Part, PartRefusal, arm_field, find_type, type_arm, type_definition, type_part, type_path,

@@ -2,11 +2,11 @@
 //! `clients/c/scaleview.h`, and never change.
 
 ghost use Rattle.std.specs.Prelude.{◌≡◌};
-ghost use Rattle.scaleview_c.specs.Codes.{count_answer, metadata_answer, opened_answer, plain};
-ghost use Rattle.scaleview_c.specs.Codes.{progress_answer, refused};
-ghost use Rattle.scaleview_c.specs.Codes.{registry_answer, registry_code, text_answer};
-ghost use Rattle.scaleview_c.specs.Codes.{opening_code, record_code, records_answer};
-ghost use Rattle.scaleview_c.specs.Codes.{value_answer, value_code};
+ghost use Rattle.c_answers.specs.Codes.{count_answer, metadata_answer, opened_answer, plain};
+ghost use Rattle.c_answers.specs.Codes.{progress_answer, refused};
+ghost use Rattle.c_answers.specs.Codes.{registry_answer, registry_code, text_answer};
+ghost use Rattle.c_answers.specs.Codes.{opening_code, record_code, records_answer};
+ghost use Rattle.c_answers.specs.Codes.{value_answer, value_code};
 
 use decode_core::{DecodeReason, Progress};
 use record_core::RecordFault;
@@ -124,7 +124,7 @@ fn opening_code(reason: BuildFault) -> u32
 
 impl Answer {
     /// Returns an answer of a code alone.
-    pub(crate) fn plain(code: u32) -> Answer
+    pub fn plain(code: u32) -> Answer
         ensures { result ≡ plain code }
     {
         Answer {
@@ -136,7 +136,7 @@ impl Answer {
     }
 
     /// Returns an answer of a code and a length.
-    pub(crate) fn counted(code: u32, length: u64) -> Answer
+    pub fn counted(code: u32, length: u64) -> Answer
         ensures { result ≡ count_answer code length }
     {
         Answer {
@@ -149,14 +149,14 @@ impl Answer {
 
     /// Returns the answer of a text of `len` bytes and memory for `room` bytes: it was written, or
     /// does not fit.
-    pub(crate) fn of_text(len: usize, room: usize) -> Answer
+    pub fn of_text(len: usize, room: usize) -> Answer
         ensures { result ≡ text_answer len room }
     {
         Answer::counted(if len <= room { OK } else { NO_ROOM }, len as u64)
     }
 
     /// Returns the answer of an open registry of this many types, which ends at a place.
-    pub(crate) fn of_opened(version: Option<Version>, end: usize, types: usize) -> Answer
+    pub fn of_opened(version: Option<Version>, end: usize, types: usize) -> Answer
         ensures { result ≡ opened_answer version end types }
     {
         Answer {
@@ -183,7 +183,7 @@ impl Answer {
     }
 
     /// Returns the answer that says why there is no registry.
-    pub(crate) fn of_registry(refusal: RegistryRefusal) -> Answer
+    pub fn of_registry(refusal: RegistryRefusal) -> Answer
         ensures { result ≡ registry_answer refusal }
     {
         match refusal {
@@ -200,7 +200,7 @@ impl Answer {
     }
 
     /// Returns the answer that says why there is no metadata.
-    pub(crate) fn of_metadata(refusal: MetadataRefusal) -> Answer
+    pub fn of_metadata(refusal: MetadataRefusal) -> Answer
         ensures { result ≡ metadata_answer refusal }
     {
         match refusal {
@@ -223,7 +223,7 @@ impl Answer {
     }
 
     /// Returns the answer that says why there is no value.
-    pub(crate) fn of_value(refusal: ValueRefusal) -> Answer
+    pub fn of_value(refusal: ValueRefusal) -> Answer
         ensures { result ≡ value_answer refusal }
     {
         match refusal {
@@ -236,7 +236,7 @@ impl Answer {
     }
 
     /// Returns the answer that says why records are no value.
-    pub(crate) fn of_records(fault: RecordFault) -> Answer
+    pub fn of_records(fault: RecordFault) -> Answer
         ensures { result ≡ records_answer fault }
     {
         match fault {
@@ -247,7 +247,7 @@ impl Answer {
     }
 
     /// Returns the answer that says how far a value is.
-    pub(crate) fn of_progress(progress: Progress) -> Answer
+    pub fn of_progress(progress: Progress) -> Answer
         ensures { result ≡ progress_answer progress }
     {
         match progress {

@@ -18,7 +18,7 @@ use Rattle.value_core.specs.declared.build_fault.BuildFault.{BuildFault}
 use Rattle.value_core.specs.declared.build_fault.BuildFault.TheVariants as fault
 use Rattle.record_core.specs.declared.replaying.RecordFault.{RecordFault}
 use Rattle.record_core.specs.declared.replaying.RecordFault.TheVariants as records
-use Rattle.scaleview_c.specs.declared.codes.Answer.{Answer}
+use Rattle.c_answers.specs.declared.answer.Answer.{Answer}
 
 -- the number of a reason: from 101 for a registry's bytes, from 301 for a value's, and 3 for an
 -- allocation failure
