@@ -215,6 +215,36 @@ static void check_rejected(void) {
     check("an own type refers to none", is_answer(answer, SCALEVIEW_REGISTRY_UNKNOWN_REFERENCE, 2, OWN_TYPES, 0));
 }
 
+/* Opens bytes with their names: either all names can be listed, or the code has a name and the place lies in the bytes. */
+static bool is_opened(const uint8_t *bytes, size_t length) {
+    scaleview_registry registry = {NULL};
+    scaleview_answer answer, listed;
+    uint8_t out[256];
+    if (scaleview_open(bytes, length, WITH_NAMES, &registry, &answer) == SCALEVIEW_OK) {
+        uint32_t names_seen = 0;
+        while (scaleview_name_at(registry, names_seen, out, sizeof out, &listed) == SCALEVIEW_OK) names_seen++;
+        check("all names are listed", listed.code == SCALEVIEW_UNKNOWN_NAME);
+        check("closed", scaleview_close(&registry) == SCALEVIEW_OK);
+        return true;
+    }
+    check("a code with a name", scaleview_reason(answer.code, out, sizeof out, &listed) == SCALEVIEW_OK && listed.length > 0);
+    check("a place", answer.code == SCALEVIEW_REGISTRY_UNKNOWN_REFERENCE || answer.at <= length);
+    return false;
+}
+
+/* Metadata that ends anywhere, and metadata of which any one bit is another, is answered. */
+static void check_damaged(void) {
+    uint8_t bytes[sizeof chain_bytes];
+    memcpy(bytes, chain_bytes, sizeof bytes);
+    for (size_t length = 0; length < sizeof bytes; length++) check("a front is rejected", !is_opened(bytes, length));
+    for (size_t bit = 0; bit < 8 * sizeof bytes; bit++) {
+        bytes[bit / 8] ^= (uint8_t)(1 << bit % 8);
+        is_opened(bytes, sizeof bytes);
+        bytes[bit / 8] ^= (uint8_t)(1 << bit % 8);
+    }
+    check("all are as they were", is_opened(bytes, sizeof bytes));
+}
+
 static void check_opaque(void) {
     static const struct {
         const char *bytes;
@@ -269,6 +299,7 @@ int main(void) {
     check("closed", scaleview_close(&registry) == SCALEVIEW_OK);
     check_unnamed();
     check_rejected();
+    check_damaged();
     check_opaque();
     return failures > 0;
 }
