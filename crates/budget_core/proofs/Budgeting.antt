@@ -16,7 +16,7 @@ use contract.Monad.{Fun, fact, fact_i}
 use types.Kit.{‵, raw, ◌⊛◌, some, later, ◌$◌, ◌∵◌, !, qed, move, keep, use0, use1, split, join}
 use types.Kit.{drop, pick, fsplit, fjoin, feq_i, feq_l, flt_i, flt_l, check, show, await}
 use types.Kit.{updating, now as at_once, done}
-use denote.Builtin.{u64, usize, bool, unit, RefOf}
+use denote.Builtin.{usize, bool, unit, RefOf}
 use denote.Memory.{hidden_shr}
 use denote.Param.{bounded, param}
 use denote.RattleType.{RattleType}
@@ -24,10 +24,10 @@ use denote.Signature.{Slot, plain}
 use denote.Steps.{nothing, only}
 use denote.Triple.Spec.{triple_of}
 use denote.Triple.Statement.{Contract}
-use Rattle.std.specs.contracts.cell.Cell as cell
 use Rattle.std.specs.contracts.rc.Rc as rc
 use Rattle.std.proofs.alloc.Calls.{Al, α}
 use Rattle.budget_core.specs.contracts.budget.Budget as budget
+use Rattle.budget_core.specs.contracts.budget.Shared as shared
 use Rattle.budget_core.specs.contracts.budget.take as takes
 use Rattle.budget_core.specs.contracts.budget.give_back as returns
 use Rattle.budget_core.specs.contracts.budget.growth as grows
@@ -37,7 +37,7 @@ module _ (Z : Al) where
   Whole = budget.the_row (param 0 Z.row) Z.g
 
   abbrev pub Left : RattleType
-  Left = rc.the_row (cell.the_row u64) (param 0 Z.row) Z.g
+  Left = rc.the_row shared.the_row (param 0 Z.row) Z.g
 
   abbrev pub lent : Slot 2
   lent = RefOf (0 ∷ []) tt (plain (λ _. Whole)) (λ _. tt)

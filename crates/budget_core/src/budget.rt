@@ -1,6 +1,7 @@
 //! A budget of bytes over another allocator.
 
 ghost use Rattle.std.specs.Prelude.{IfOk, ◌≡◌, ◌+◌, ◌*◌, ◌^◌, ◌-◌, ◌<◌, MatchOption, min};
+ghost use Rattle.budget_core.specs.Bytes.{budget_bytes};
 
 use std::alloc::{AllocError, Allocator};
 use std::cell::Cell;
@@ -17,7 +18,15 @@ use std::rc::Rc;
 /// deque that grows, takes that block before it frees the old one, so both count then.
 pub struct Budget<B: Allocator> {
     inner: B,
-    left: Rc<Cell<u64>, B>,
+    shared: Rc<Shared, B>,
+}
+
+/// What all clones of a budget share.
+#[derive(Drop)]
+struct Shared {
+    /// The number of bytes that the budget is made of. It is kept for contracts alone.
+    bytes: u64,
+    left: Cell<u64>,
 }
 
 impl<B: Allocator + Clone> Budget<B> {
@@ -30,26 +39,38 @@ impl<B: Allocator + Clone> Budget<B> {
     ///
     /// `AllocError` if the allocation of the count fails, or a clone of `alloc`.
     pub fn new(alloc: B, bytes: u64) -> Result<Budget<B>, AllocError>
-        ensures { IfOk result (λ budget. budget.inner ≡ alloc) }
+        ensures inner { IfOk result (λ budget. budget.inner ≡ alloc) }
+        ensures bytes { IfOk result (λ budget. budget_bytes budget ≡ bytes) }
     {
-        let left = Rc::new(alloc.clone()?, Cell::new(allowed(bytes)))?;
-        Ok(Budget { inner: alloc, left })
+        let shared = Shared {
+            bytes,
+            left: Cell::new(allowed(bytes)),
+        };
+        let shared = Rc::new(alloc.clone()?, shared)?;
+        Ok(Budget {
+            inner: alloc,
+            shared,
+        })
     }
 }
 
 impl<B: Allocator> Drop for Budget<B> {
     fn drop(self) {
-        let Self { inner: _, left: _ } = self;
+        let Self {
+            inner: _,
+            shared: _,
+        } = self;
     }
 }
 
 impl<B: Allocator + Clone> Clone for Budget<B> {
-    ghost is_clone = { λ budget copy. B.is_clone budget.inner copy.inner };
+    ghost is_clone = { λ budget copy. B.is_clone budget.inner copy.inner
+        × (budget_bytes copy ≡ budget_bytes budget) };
 
     fn clone(&self) -> Result<Budget<B>, AllocError> {
         let inner = self.inner.clone()?;
-        let left = self.left.clone()?;
-        Ok(Budget { inner, left })
+        let shared = self.shared.clone()?;
+        Ok(Budget { inner, shared })
     }
 }
 
@@ -84,10 +105,10 @@ fn growth(old_cap: usize, new_cap: usize, size: usize) -> usize
 }
 
 /// Takes `size` bytes from those that are left. Returns `false`, and takes none, if fewer are left.
-fn take<B: Allocator>(left: &Rc<Cell<u64>, B>, size: usize) -> bool {
-    match after_taking(left.get(), size as u64) {
+fn take<B: Allocator>(shared: &Rc<Shared, B>, size: usize) -> bool {
+    match after_taking(shared.left.get(), size as u64) {
         Some(rest) => {
-            left.set(rest);
+            shared.left.set(rest);
             true
         }
         None => false,
@@ -95,28 +116,30 @@ fn take<B: Allocator>(left: &Rc<Cell<u64>, B>, size: usize) -> bool {
 }
 
 /// Gives `size` bytes back to those that are left.
-fn give_back<B: Allocator>(left: &Rc<Cell<u64>, B>, size: usize) {
-    left.set(after_return(left.get(), size as u64));
+fn give_back<B: Allocator>(shared: &Rc<Shared, B>, size: usize) {
+    shared
+        .left
+        .set(after_return(shared.left.get(), size as u64));
 }
 
 unsafe impl<B: Allocator> Allocator for Budget<B> {
     ghost dealloc_token = { λ budget ty ptr. B.dealloc_token budget.inner ty ptr };
 
     fn allocate(&self, size: usize, align: usize) -> Result<*mut u8, AllocError> {
-        if !take(&self.left, size) {
+        if !take(&self.shared, size) {
             return Err(AllocError);
         }
         match self.inner.allocate(size, align) {
             Ok(block) => Ok(block),
             Err(_) => {
-                give_back(&self.left, size);
+                give_back(&self.shared, size);
                 Err(AllocError)
             }
         }
     }
 
     unsafe fn deallocate(&self, ptr: *mut u8, size: usize, align: usize) {
-        give_back(&self.left, size);
+        give_back(&self.shared, size);
         self.inner.deallocate(ptr, size, align);
     }
 
@@ -128,13 +151,13 @@ unsafe impl<B: Allocator> Allocator for Budget<B> {
         new_cap: usize,
     ) -> Result<*mut T, AllocError> {
         let more = growth(old_cap, new_cap, size_of::<T>());
-        if !take(&self.left, more) {
+        if !take(&self.shared, more) {
             return Err(AllocError);
         }
         match self.inner.grow(ptr, len, old_cap, new_cap) {
             Ok(block) => Ok(block),
             Err(_) => {
-                give_back(&self.left, more);
+                give_back(&self.shared, more);
                 Err(AllocError)
             }
         }

@@ -14,6 +14,7 @@ use Rattle.decode_core.specs.Streaming.{query_of}
 use Rattle.decode_core.specs.declared.decoder.Progress.{Progress}
 use Rattle.decode_core.specs.declared.fault.DecodeFault.{DecodeFault}
 use Rattle.decode_core.specs.declared.fault.OpenFault.{OpenFault}
+use Rattle.budget_core.specs.Bytes.{budget_bytes}
 use Rattle.scale_calls.specs.Lines.{type_line}
 use Rattle.scale_calls.specs.Named.{IsMetadata, Metadata, RefusesMetadata, all_names, all_types}
 use Rattle.scale_calls.specs.Opened.{RefusesRegistry, checked_of, file_end, file_version}
@@ -28,10 +29,12 @@ use Rattle.c_answers.specs.Codes.{count_answer, metadata_answer, opened_answer, 
 use Rattle.c_answers.specs.Codes.{progress_answer}
 use Rattle.c_answers.specs.Codes.{registry_answer, text_answer}
 use Rattle.c_answers.specs.Codes.{value_answer}
+use Rattle.scaleview_c.specs.declared.allowance.CallBudget.{CallBudget}
 use Rattle.c_answers.specs.declared.answer.Answer.{Answer}
 use Rattle.scaleview_c.specs.declared.resource.Resource.{Resource}
 use Rattle.scaleview_c.specs.declared.resource.Resource.TheVariants as held
 use Rattle.scaleview_c.specs.declared.opened.Opened.{Opened}
+use Rattle.scaleview_c.specs.declared.session.Session.{Session}
 use Rattle.scaleview_c.specs.declared.session.Stage.{Stage}
 use Rattle.scaleview_c.specs.declared.session.Stage.TheVariants as stage
 
@@ -46,6 +49,10 @@ Leaves old new reported a = (new ≡ old) × (a ≡ reported)
 -- the text is written, unless an allocation failed, which is reported
 abbrev pub WritesUnlessMemory : List ℕ → List ℕ → List ℕ → Answer → Type 0
 WritesUnlessMemory text old new a = Leaves old new (plain 3) a ⊎ Writes text old new a
+
+-- the number of bytes of the budget that a call or a session allocates in; 0 stands for no budget
+abbrev pub call_bytes : CallBudget → ℕ
+call_bytes b = budget_bytes b.budget
 
 -- ---- registries
 
@@ -164,32 +171,43 @@ IsStarted o id limits (stage.Decoding d) = (opening_fault o.checked.types id lim
 IsStarted o id limits (stage.Complete v) = ⊥
 IsStarted o id limits (stage.Refused e) = ⊥
 
--- a box holds a started session of the registry; or the answer says why there is none
-abbrev pub IsSession : Opened → ℕ → Limits → Resource → Type 0
-IsSession o id limits (held.Session s) = IsStarted o id limits s.stage × (s.registry.now ≡ o)
-IsSession o id limits (held.Registry other) = ⊥
+-- a started session of the registry, with a budget of exactly this memory
+pub record StartsIn (o : Opened) (id : ℕ) (limits : Limits) (memory : ℕ) (s : Session) : Type 0
+  where
+    pub starts : IsStarted o id limits s.stage
+    pub registry : s.registry.now ≡ o
+    pub budget : call_bytes s.budget ≡ memory
 
-abbrev pub StartsBox : {X : Type 0} → (X → Resource) → Opened → ℕ → Limits →
+-- a box holds such a session; or the answer says why there is none
+abbrev pub IsSession : Opened → ℕ → Limits → ℕ → Resource → Type 0
+IsSession o id limits memory (held.Session s) = StartsIn o id limits memory s
+IsSession o id limits memory (held.Registry other) = ⊥
+
+abbrev pub StartsBox : {X : Type 0} → (X → Resource) → Opened → ℕ → Limits → ℕ →
     Result X ValueRefusal → Type 0
-StartsBox value_of o id limits (Ok x) = IsSession o id limits (value_of x)
-StartsBox value_of o id limits (Err e) =
+StartsBox value_of o id limits memory (Ok x) = IsSession o id limits memory (value_of x)
+StartsBox value_of o id limits memory (Err e) =
     ForbidsStart (opening_fault o.checked.types id limits) (value_answer e)
 
 -- a started session is behind the handle; or nothing is, and the answer says why
-abbrev pub StartsSession : Option Resource → ℕ → Limits → Option Resource → Answer → Type 0
-StartsSession (Some (held.Registry o)) id limits (Some (held.Session s)) a =
-    IsStarted o id limits s.stage × (s.registry.now ≡ o) × (a ≡ plain 0)
-StartsSession (Some (held.Registry o)) id limits (Some (held.Registry other)) a = ⊥
-StartsSession (Some (held.Registry o)) id limits None a =
+abbrev pub StartsSession : Option Resource → ℕ → Limits → ℕ → Option Resource → Answer → Type 0
+StartsSession (Some (held.Registry o)) id limits memory (Some (held.Session s)) a =
+    StartsIn o id limits memory s × (a ≡ plain 0)
+StartsSession (Some (held.Registry o)) id limits memory (Some (held.Registry other)) a = ⊥
+StartsSession (Some (held.Registry o)) id limits memory None a =
     ForbidsStart (opening_fault o.checked.types id limits) a
-StartsSession (Some (held.Session s)) id limits new a = (new ≡ None) × (a ≡ plain 5)
-StartsSession None id limits new a = (new ≡ None) × (a ≡ plain 5)
+StartsSession (Some (held.Session s)) id limits memory new a = (new ≡ None) × (a ≡ plain 5)
+StartsSession None id limits memory new a = (new ≡ None) × (a ≡ plain 5)
 
 -- the session is started behind a null handle
-abbrev pub StartsHandle : Option Resource → Option Resource → ℕ → Limits → Option Resource →
+abbrev pub StartsHandle : Option Resource → Option Resource → ℕ → Limits → ℕ → Option Resource →
     Answer → Type 0
-StartsHandle (Some old) registry id limits new a = Stays (Some old) new a
-StartsHandle None registry id limits new a = StartsSession registry id limits new a
+StartsHandle (Some old) registry id limits memory new a = Stays (Some old) new a
+StartsHandle None registry id limits memory new a = StartsSession registry id limits memory new a
+
+-- a session keeps its registry and its budget
+abbrev pub Keeps : Session → Session → Type 0
+Keeps s t = (t.registry ≡ s.registry) × (t.budget ≡ s.budget)
 
 -- the answer to a piece as numbers
 abbrev pub fed_answer : Result Progress DecodeFault → Answer
@@ -211,7 +229,8 @@ abbrev pub IsNone : Option Resource → Option Resource → Answer → Type 0
 IsNone old new a = (new ≡ old) × (a ≡ plain 5)
 
 abbrev pub Feeds : Option Resource → List ℕ → Option Resource → Answer → Type 0
-Feeds (Some (held.Session s)) piece (Some (held.Session t)) a = FeedsStage s.stage piece t.stage a
+Feeds (Some (held.Session s)) piece (Some (held.Session t)) a =
+    FeedsStage s.stage piece t.stage a × Keeps s t
 Feeds (Some (held.Session s)) piece (Some (held.Registry o)) a = ⊥
 Feeds (Some (held.Session s)) piece None a = ⊥
 Feeds (Some (held.Registry o)) piece new a = IsNone (Some (held.Registry o)) new a
@@ -263,7 +282,7 @@ WritesStage (stage.Refused e) old new a = Leaves old new (value_answer e) a
 
 abbrev pub FinishesSession : Option Resource → Option Resource → List ℕ → List ℕ → Answer → Type 0
 FinishesSession (Some (held.Session s)) (Some (held.Session t)) old new a = Ends s.stage t.stage
-    × WritesStage t.stage old new a
+    × Keeps s t × WritesStage t.stage old new a
 FinishesSession (Some (held.Session s)) (Some (held.Registry o)) old new a = ⊥
 FinishesSession (Some (held.Session s)) None old new a = ⊥
 FinishesSession (Some (held.Registry o)) kept old new a = IsNone (Some (held.Registry o)) kept a

@@ -19,7 +19,7 @@ use Rattle.record_core.specs.declared.replaying.RecordFault.{RecordFault}
 use Rattle.record_core.specs.declared.replaying.RecordFault.TheVariants as records
 use Rattle.scale_calls.specs.Values.{ReadsValue}
 use Rattle.scale_calls.specs.declared.refusal.ValueRefusal.{ValueRefusal}
-use Rattle.scaleview_c.specs.Calls.{Ends, Leaves, Writes}
+use Rattle.scaleview_c.specs.Calls.{Ends, Keeps, Leaves, Writes}
 use Rattle.c_answers.specs.Codes.{plain, records_answer, value_answer}
 use Rattle.c_answers.specs.declared.answer.Answer.{Answer}
 use Rattle.scaleview_c.specs.declared.opened.Opened.{Opened}
@@ -91,7 +91,7 @@ PutsStage (stage.Refused e) old new old_pool pool a =
 abbrev pub FinishesNodes : Option Resource → Option Resource → List Record → List Record →
     List ℕ → List ℕ → Answer → Type 0
 FinishesNodes (Some (held.Session s)) (Some (held.Session t)) old new old_pool pool a =
-    Ends s.stage t.stage × PutsStage t.stage old new old_pool pool a
+    Ends s.stage t.stage × Keeps s t × PutsStage t.stage old new old_pool pool a
 FinishesNodes (Some (held.Session s)) (Some (held.Registry o)) old new old_pool pool a = ⊥
 FinishesNodes (Some (held.Session s)) None old new old_pool pool a = ⊥
 FinishesNodes (Some (held.Registry o)) kept old new old_pool pool a =

@@ -2,6 +2,7 @@
 //! `clients/c/scaleview.h` documents the calls.
 #![tactic(auto)]
 
+mod allowance;
 mod box_parts;
 mod handle;
 mod keeper;

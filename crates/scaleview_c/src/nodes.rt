@@ -3,9 +3,10 @@
 ghost use Rattle.std.specs.Prelude.{◌≡◌, IfOk};
 ghost use Rattle.node_core.specs.Encoding.{IsEncoding};
 ghost use Rattle.value_core.specs.Refusals.{build_opening_fault};
-ghost use Rattle.scaleview_c.specs.Nodes.{DecodesNodes, Encodes, EncodesNodes};
+ghost use Rattle.scaleview_c.specs.Nodes.{DecodesNodes, Encodes, EncodesNodes, EncodesRecords};
 ghost use Rattle.scaleview_c.specs.Nodes.{FinishesNodes, PutsNodes, PutsStage, WritesValueNodes};
 
+use crate::allowance::{Allowance, CallBudget};
 use crate::handle::{Handle, handle_of, held_by};
 use crate::lent::Lent;
 use crate::opened::Opened;
@@ -47,13 +48,12 @@ fn put_stage(stage: &Stage, nodes: &mut [Record], pool: &mut [u8]) -> Answer
     }
 }
 
-/// Writes the nodes of the value that the bytes spell, with this budget of memory.
+/// Writes the nodes of the value that the bytes spell, which is read in the budget.
 fn write_nodes(
-    alloc: Global,
+    budget: &CallBudget,
     opened: &Opened,
     id: u32,
     limits: Limits,
-    memory: u64,
     bytes: &[u8],
     nodes: &mut [Record],
     pool: &mut [u8],
@@ -61,10 +61,10 @@ fn write_nodes(
     ensures { WritesValueNodes opened.now id limits bytes.now nodes.old nodes.new pool.old
         pool.new result }
 {
-    let Ok(budget) = Budget::new(alloc, memory) else {
+    let Ok(alloc) = budget.alloc() else {
         return Answer::of_value(ValueRefusal::Memory);
     };
-    match read_value(budget, &opened.checked, id, limits, bytes) {
+    match read_value(alloc, &opened.checked, id, limits, bytes) {
         Ok(value) => put_nodes(&value, nodes, pool),
         Err(refusal) => Answer::of_value(refusal),
     }
@@ -83,7 +83,7 @@ pub extern "C" fn scaleview_decode_nodes(
     id: u32,
     depth: u16,
     limit: u64,
-    memory: u64,
+    memory: Allowance,
     bytes: &[u8],
     nodes: &mut [Record],
     pool: &mut [u8],
@@ -98,9 +98,10 @@ pub extern "C" fn scaleview_decode_nodes(
         bytes: limit,
     };
     *answer = match registry.get() {
-        Some(Resource::Registry(opened)) => {
-            write_nodes(alloc, opened, id, limits, memory, bytes, nodes, pool)
-        }
+        Some(Resource::Registry(opened)) => match memory.budget(alloc) {
+            Ok(budget) => write_nodes(&budget, opened, id, limits, bytes, nodes, pool),
+            Err(_) => Answer::of_value(ValueRefusal::Memory),
+        },
         Some(Resource::Session(_)) | None => Answer::plain(NO_HANDLE),
     };
     answer.code
@@ -166,13 +167,41 @@ fn opening_fault(opened: &Opened, id: u32, depth: u16) -> Option<BuildFault>
     None
 }
 
-/// Writes the bytes that spell the value whose nodes these records are, with this budget of memory.
+/// Writes the bytes that spell the value whose nodes these records are. Both are in the budget.
+fn write_spelling(
+    budget: &CallBudget,
+    opened: &Opened,
+    id: u32,
+    depth: u16,
+    nodes: &[Record],
+    pool: &[u8],
+    out: &mut [u8],
+) -> Answer
+    ensures { EncodesRecords opened.now.checked.types id depth nodes.now pool.now out.old out.new
+        result }
+{
+    let Ok(alloc) = budget.alloc() else {
+        return Answer::plain(MEMORY);
+    };
+    let Ok(value_alloc) = budget.alloc() else {
+        return Answer::plain(MEMORY);
+    };
+    match value_of_records(value_alloc, &opened.checked, TypeId(id), depth, nodes, pool) {
+        Ok(value) => match bytes_of(alloc, &value) {
+            Ok(bytes) => put(out, bytes.as_slice()),
+            Err(_) => Answer::plain(MEMORY),
+        },
+        Err(fault) => Answer::of_records(fault),
+    }
+}
+
+/// Writes the bytes that spell the value whose nodes these records are, in a budget of this memory.
 fn write_encoded(
     alloc: Global,
     opened: &Opened,
     id: u32,
     depth: u16,
-    memory: u64,
+    memory: Allowance,
     nodes: &[Record],
     pool: &[u8],
     out: &mut [u8],
@@ -183,18 +212,9 @@ fn write_encoded(
     if let Some(fault) = opening_fault(opened, id, depth) {
         return Answer::of_records(RecordFault::Open(fault));
     }
-    let Ok(budget) = Budget::new(alloc, memory) else {
-        return Answer::plain(MEMORY);
-    };
-    let Ok(value_alloc) = budget.clone() else {
-        return Answer::plain(MEMORY);
-    };
-    match value_of_records(value_alloc, &opened.checked, TypeId(id), depth, nodes, pool) {
-        Ok(value) => match bytes_of(budget, &value) {
-            Ok(bytes) => put(out, bytes.as_slice()),
-            Err(_) => Answer::plain(MEMORY),
-        },
-        Err(fault) => Answer::of_records(fault),
+    match memory.budget(alloc) {
+        Ok(budget) => write_spelling(&budget, opened, id, depth, nodes, pool, out),
+        Err(_) => Answer::plain(MEMORY),
     }
 }
 
@@ -212,7 +232,7 @@ pub extern "C" fn scaleview_encode_nodes(
     registry: Lent,
     id: u32,
     depth: u16,
-    memory: u64,
+    memory: Allowance,
     nodes: &[Record],
     pool: &[u8],
     out: &mut [u8],

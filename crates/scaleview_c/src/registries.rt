@@ -6,13 +6,13 @@ ghost use Rattle.scaleview_c.specs.Calls.{OpensMetadata, OpensRegistry, ReportsT
 ghost use Rattle.scaleview_c.specs.Calls.{WritesLine, WritesValue, options_of, reads_names};
 ghost use Rattle.scaleview_c.specs.Kept.{CountsOpen, GivesRegistry};
 
+use crate::allowance::{Allowance, CallBudget};
 use crate::handle::{Handle, handle_of, held_by};
 use crate::keeper::{Heap, Keeper, close_code};
 use crate::lent::Lent;
 use crate::opened::Opened;
 use crate::resource::Resource;
-use crate::text::{put, put_json};
-use budget_core::Budget;
+use crate::text::put;
 use c_answers::{Answer, MEMORY, NO_HANDLE, OK, TAKEN, UNKNOWN_TYPE};
 use scale_calls::{
     MetadataRefusal, NamedMetadata, OpenOptions, OpenedRegistry, RegistryRefusal, open_metadata,
@@ -207,26 +207,22 @@ pub extern "C" fn scaleview_type_line(
     answer.code
 }
 
-/// Writes the JSON of the value that the bytes spell, with this budget of memory.
+/// Writes the JSON of the value that the bytes spell, which is read in the budget.
 fn write_value(
-    alloc: Global,
+    budget: &CallBudget,
     opened: &Opened,
     id: u32,
     limits: Limits,
-    memory: u64,
     bytes: &[u8],
     out: &mut [u8],
 ) -> Answer
     ensures { WritesJson opened.now id limits bytes.now out.old out.new result }
 {
-    let Ok(budget) = Budget::new(alloc, memory) else {
+    let Ok(alloc) = budget.alloc() else {
         return Answer::plain(MEMORY);
     };
-    let Ok(value_alloc) = budget.clone() else {
-        return Answer::plain(MEMORY);
-    };
-    match read_value(value_alloc, &opened.checked, id, limits, bytes) {
-        Ok(value) => put_json(alloc, &budget, &value, out),
+    match read_value(alloc, &opened.checked, id, limits, bytes) {
+        Ok(value) => budget.put_json(&value, out),
         Err(refusal) => Answer::of_value(refusal),
     }
 }
@@ -239,7 +235,7 @@ pub extern "C" fn scaleview_decode(
     id: u32,
     depth: u16,
     limit: u64,
-    memory: u64,
+    memory: Allowance,
     bytes: &[u8],
     out: &mut [u8],
     answer: &mut Answer,
@@ -253,9 +249,10 @@ pub extern "C" fn scaleview_decode(
         bytes: limit,
     };
     *answer = match registry.get() {
-        Some(Resource::Registry(opened)) => {
-            write_value(alloc, opened, id, limits, memory, bytes, out)
-        }
+        Some(Resource::Registry(opened)) => match memory.budget(alloc) {
+            Ok(budget) => write_value(&budget, opened, id, limits, bytes, out),
+            Err(_) => Answer::plain(MEMORY),
+        },
         Some(Resource::Session(_)) | None => Answer::plain(NO_HANDLE),
     };
     answer.code

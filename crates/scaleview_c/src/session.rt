@@ -1,11 +1,11 @@
 //! A value in progress, over a borrowed registry.
 
 ghost use Rattle.std.specs.Prelude.{◌≡◌};
-ghost use Rattle.scaleview_c.specs.Calls.{Ends, FeedsStage, WritesStage, bytes_taken, nodes_held};
-ghost use Rattle.scaleview_c.specs.Calls.{text_bytes_held};
+ghost use Rattle.scaleview_c.specs.Calls.{Ends, FeedsStage, Keeps, WritesStage, bytes_taken};
+ghost use Rattle.scaleview_c.specs.Calls.{nodes_held, text_bytes_held};
 
+use crate::allowance::CallBudget;
 use crate::opened::Opened;
-use crate::text::put_json;
 use budget_core::Budget;
 use c_answers::{Answer, MORE, OK};
 use decode_core::Decoder;
@@ -31,13 +31,14 @@ pub struct Session {
     pub stage: Stage,
     pub registry: &'static Opened,
     /// The memory that the value, and its text while it is written, may take.
-    pub budget: Budget<Global>,
+    pub budget: CallBudget,
 }
 
 impl Session {
     /// Ends the value, if it has not ended.
     pub(crate) fn end(&mut self)
-        ensures { Ends self.old.stage self.new.stage }
+        ensures ended { Ends self.old.stage self.new.stage }
+        ensures kept { Keeps self.old self.new }
     {
         let stage = mem::replace(&mut self.stage, Stage::Refused(ValueRefusal::Memory));
         self.stage = stage.ended();
@@ -105,12 +106,12 @@ impl Stage {
     }
 
     /// Writes the JSON of an ended value to the front of `out`, by way of a text in the budget.
-    pub(crate) fn put(&self, alloc: Global, budget: &Budget<Global>, out: &mut [u8]) -> Answer
+    pub(crate) fn put(&self, budget: &CallBudget, out: &mut [u8]) -> Answer
         ensures { WritesStage self.now out.old out.new result }
     {
         match self {
             Stage::Decoding(_) => Answer::plain(MORE),
-            Stage::Complete(value) => put_json(alloc, budget, value, out),
+            Stage::Complete(value) => budget.put_json(value, out),
             Stage::Refused(refusal) => Answer::of_value(*refusal),
         }
     }

@@ -3,16 +3,17 @@
 ghost use Rattle.std.specs.Prelude.{◌≡◌, None, Some};
 ghost use Rattle.scaleview_c.specs.Calls.{Feeds, FinishesSession, Frees, StartsBox};
 ghost use Rattle.scaleview_c.specs.Calls.{ReportsCount, StartsHandle};
-ghost use Rattle.scaleview_c.specs.Calls.{bytes_taken, nodes_held, text_bytes_held};
+ghost use Rattle.scaleview_c.specs.Calls.{bytes_taken, call_bytes, nodes_held, text_bytes_held};
+ghost use Rattle.scaleview_c.specs.declared.resource.Resource.TheVariants as held;
 ghost use Rattle.scaleview_c.specs.Kept.{CountsStart, GivesSession};
 
+use crate::allowance::{Allowance, CallBudget};
 use crate::handle::{Handle, handle_of, held_by};
 use crate::keeper::{Heap, Keeper, lend, take_back};
 use crate::lent::Lent;
 use crate::opened::Opened;
 use crate::resource::Resource;
 use crate::session::{Session, Stage};
-use budget_core::Budget;
 use c_answers::{Answer, NO_HANDLE, OK, TAKEN};
 use decode_core::Decoder;
 use registry_core::TypeId;
@@ -21,23 +22,34 @@ use std::alloc::Global;
 use std::mem;
 use value_core::Limits;
 
-/// Creates a session that has taken no bytes, with this budget of memory.
+/// Creates a session that has taken no bytes, in this budget.
+fn session_in(
+    budget: CallBudget,
+    registry: &'static Opened,
+    id: u32,
+    limits: Limits,
+) -> Result<Session, ValueRefusal>
+    ensures { StartsBox held.Session registry.now id limits (call_bytes budget) result }
+{
+    let decoder = Decoder::new(budget.alloc()?, &registry.checked, TypeId(id), limits)?;
+    Ok(Session {
+        stage: Stage::Decoding(decoder),
+        registry,
+        budget,
+    })
+}
+
+/// Creates a session that has taken no bytes, in a budget of this memory.
 fn started(
     alloc: Global,
     registry: &'static Opened,
     id: u32,
     limits: Limits,
-    memory: u64,
+    memory: Allowance,
 ) -> Result<Box<Resource>, ValueRefusal>
-    ensures { StartsBox (λ held. held.value) registry.now id limits result }
+    ensures { StartsBox (λ held. held.value) registry.now id limits memory.bytes result }
 {
-    let budget = Budget::new(alloc, memory)?;
-    let decoder = Decoder::new(budget.clone()?, &registry.checked, TypeId(id), limits)?;
-    let session = Session {
-        stage: Stage::Decoding(decoder),
-        registry,
-        budget,
-    };
+    let session = session_in(memory.budget(alloc)?, registry, id, limits)?;
     match Box::new(alloc, Resource::Session(session)) {
         Ok(held) => Ok(held),
         Err(_) => Err(ValueRefusal::Memory),
@@ -51,11 +63,11 @@ pub fn start_in<K: Keeper>(
     registry: Lent,
     id: u32,
     limits: Limits,
-    memory: u64,
+    memory: Allowance,
     session: &mut Handle,
 ) -> Answer
     ensures started { StartsHandle session.old.value registry.value id limits
-        session.new.value result }
+        memory.bytes session.new.value result }
     ensures counted { CountsStart K.counts keeper.old session.old.value registry.value
         session.new.value keeper.new }
 {
@@ -84,14 +96,14 @@ pub extern "C" fn scaleview_start(
     id: u32,
     depth: u16,
     limit: u64,
-    memory: u64,
+    memory: Allowance,
     session: &mut Handle,
     answer: &mut Answer,
 ) -> u32
     ensures started { StartsHandle session.old.value registry.value id (record {
       depth = depth;
       bytes = limit;
-    }) session.new.value answer.new }
+    }) memory.bytes session.new.value answer.new }
     ensures code { result ≡ answer.new.code }
 {
     let limits = Limits {
@@ -202,7 +214,7 @@ pub extern "C" fn scaleview_finish(
     *answer = match &mut *held {
         Resource::Session(session) => {
             session.end();
-            session.stage.put(alloc, &session.budget, out)
+            session.stage.put(&session.budget, out)
         }
         Resource::Registry(_) => Answer::plain(NO_HANDLE),
     };

@@ -6,15 +6,10 @@ pub returns-in_default : goal.returns-in_default
 returns-in_default c =
     no_memory c.args.opened.now c.args.id c.args.limits _ _ _ _ (refl, c.plain.ensures)
 
-pub returns-in_default-clone : goal.returns-in_default-clone
-returns-in_default-clone c =
-    no_memory c.args.opened.now c.args.id c.args.limits _ _ _ _
-    (refl, c.plain-in_default-clone.ensures)
-
 pub returns-in-Ok-read_value : goal.returns-in-Ok-read_value
 returns-in-Ok-read_value c =
     value_written c.args.opened.now c.args.id c.args.limits c.args.bytes.now _ _
     c.in-Ok-read_value.value _ c.in-Ok-read_value.ensures c.put_json.ensures
 
-pub returns : goal.returns
-returns c = (Err c.in-Err.refusal, c.in-Err.ensures, search rules)
+pub returns-in-Err : goal.returns-in-Err
+returns-in-Err c = (Err c.in-Err.refusal, c.in-Err.ensures, search rules)

@@ -141,8 +141,8 @@ module _ (Z : Al) {M : Type 1} {𝓤 : Ura M} (𝓛 : Logic 𝓤) (at_mem : Memo
         let from : ℕ × ℕ = inner_of Z self.ref_ptr in
         let left : ℕ × ℕ = left_of Z self.ref_ptr in
         let asked = at_takes Z 𝓛 at_mem run κ₁ q₁ from self.now.inner bytes aligned τ in
-        let counted = at_taken Z 𝓛 at_mem run κ₁ κ₂ q₁ q₂ inside left self.now.left bytes in
-        let uncounted = at_returned Z 𝓛 at_mem run κ₁ κ₂ q₁ q₂ inside left self.now.left bytes in
+        let counted = at_taken Z 𝓛 at_mem run κ₁ κ₂ q₁ q₂ inside left self.now.shared bytes in
+        let uncounted = at_returned Z 𝓛 at_mem run κ₁ κ₂ q₁ q₂ inside left self.now.shared bytes in
         qed 𝓛 (((‵ (flft κ₁ q₁) ⊛ ‵ (flft κ₂ q₂) ⊛ ‵ ftrue) ⊛ ‵
         (owns (types_at (ended Z).signature.params bound.0.0) bound.0.3 bound.0.4)) ∷ (raw
         (fact 𝓤 (κ₂ ⊑ Z.row.lives)) ⊛ raw (fact 𝓤 Fitting)) ∷ []) ∵
@@ -168,12 +168,12 @@ module _ (Z : Al) {M : Type 1} {𝓤 : Ura M} (𝓛 : Logic 𝓤) (at_mem : Memo
         -- the bytes are taken
         sets ! (addr ! (through ! refl (fld ! refl (stop !)))) refl (tt, tt) $
         use3 𝓛 (raw ((Taken Z 𝓛 at_mem run).pre counted))
-        (taken_goes Z 𝓛 at_mem run κ₁ κ₂ q₁ q₂ inside left self.now.left bytes lives few) $
+        (taken_goes Z 𝓛 at_mem run κ₁ κ₂ q₁ q₂ inside left self.now.shared bytes lives few) $
         calls_at ! (fm_of 𝓤 H 𝓛.laws 𝓣) (Taken Z 𝓛 at_mem run) taken counted
         (and_then ! (get ! refl) (and_then ! (get ! refl) (no_more !))) (λ u.
         use1 𝓛 (later (some (λ (is_it : Bool). given (u ≡ vbool is_it)
         (‵ (flft κ₁ q₁) ⊛ ‵ (flft κ₂ q₂) ⊛ ‵ ftrue))))
-        (taken_gives Z 𝓛 at_mem run κ₁ κ₂ q₁ q₂ inside left self.now.left bytes u) $
+        (taken_gives Z 𝓛 at_mem run κ₁ κ₂ q₁ q₂ inside left self.now.shared bytes u) $
         await ! tt $ pick ! (λ is_it. learn ! (λ eu. lands_as ! eu refl (tt, tt) $ split ! $
         sets ! (un ! (get ! refl) tt) refl (tt, tt) $ first ! $ branches ! (get ! refl)
         -- too few are left
@@ -214,11 +214,11 @@ module _ (Z : Al) {M : Type 1} {𝓤 : Ura M} (𝓛 : Logic 𝓤) (at_mem : Memo
         sets ! (addr ! (through ! refl (fld ! refl (stop !)))) refl (tt, tt) $
         move ! (2 ∷ 0 ∷ 1 ∷ []) $
         use3 𝓛 (raw ((Returned Z 𝓛 at_mem run).pre uncounted))
-        (returned_goes Z 𝓛 at_mem run κ₁ κ₂ q₁ q₂ inside left self.now.left bytes lives few) $
+        (returned_goes Z 𝓛 at_mem run κ₁ κ₂ q₁ q₂ inside left self.now.shared bytes lives few) $
         calls_at ! (fm_of 𝓤 H 𝓛.laws 𝓣) (Returned Z 𝓛 at_mem run) returned uncounted
         (and_then ! (get ! refl) (and_then ! (get ! refl) (no_more !))) (λ w.
         use1 𝓛 (later (given (w ≡ vunit) (‵ (flft κ₁ q₁) ⊛ ‵ (flft κ₂ q₂) ⊛ ‵ ftrue)))
-        (returned_gives Z 𝓛 at_mem run κ₁ κ₂ q₁ q₂ inside left self.now.left bytes w) $
+        (returned_gives Z 𝓛 at_mem run κ₁ κ₂ q₁ q₂ inside left self.now.shared bytes w) $
         await ! tt $ learn ! (λ ew. lands_as ! ew refl (tt, tt) $ split ! $
         sets ! (agg ! (no_more !)) refl (tt, tt) $
         sets_last ! (agg ! (and_then ! (lit ! tt) (and_then ! (get ! refl) (no_more !)))) refl

@@ -113,7 +113,7 @@ module _ (Z : Al) {M : Type 1} {𝓤 : Ura M} (𝓛 : Logic 𝓤) (at_mem : Memo
         let left : ℕ × ℕ = left_of Z self.ref_ptr in
         let given_back = at_gives Z 𝓛 at_mem run κ₁ q₁ to self.now.inner block offset bytes aligned
         τ in
-        let counted = at_returned Z 𝓛 at_mem run κ₁ κ₂ q₁ q₂ inside left self.now.left bytes in
+        let counted = at_returned Z 𝓛 at_mem run κ₁ κ₂ q₁ q₂ inside left self.now.shared bytes in
         qed 𝓛 (entry ptr ∷ (raw (fact 𝓤 (κ₂ ⊑ Z.row.lives)) ⊛ raw (fact 𝓤 Fitting) ⊛ ‵
         (fsep (froom τ block offset) (token Z self.now.inner τ ptr))) ∷ []) ∵
         move ! (1 ∷ []) $ split3 ! $ heard ! (κ₂ ⊑ Z.row.lives)
@@ -131,11 +131,11 @@ module _ (Z : Al) {M : Type 1} {𝓤 : Ura M} (𝓛 : Logic 𝓤) (at_mem : Memo
         -- the bytes are given back
         sets ! (addr ! (through ! refl (fld ! refl (stop !)))) refl (tt, tt) $
         use3 𝓛 (raw ((Returned Z 𝓛 at_mem run).pre counted))
-        (returned_goes Z 𝓛 at_mem run κ₁ κ₂ q₁ q₂ inside left self.now.left bytes lives few) $
+        (returned_goes Z 𝓛 at_mem run κ₁ κ₂ q₁ q₂ inside left self.now.shared bytes lives few) $
         calls_at ! (fm_of 𝓤 H 𝓛.laws 𝓣) (Returned Z 𝓛 at_mem run) returned counted
         (and_then ! (get ! refl) (and_then ! (get ! refl) (no_more !))) (λ u.
         use1 𝓛 (later (given (u ≡ vunit) (‵ (flft κ₁ q₁) ⊛ ‵ (flft κ₂ q₂) ⊛ ‵ ftrue)))
-        (returned_gives Z 𝓛 at_mem run κ₁ κ₂ q₁ q₂ inside left self.now.left bytes u) $
+        (returned_gives Z 𝓛 at_mem run κ₁ κ₂ q₁ q₂ inside left self.now.shared bytes u) $
         await ! tt $ learn ! (λ eu. lands_as ! eu refl (tt, tt) $ split ! $
         move ! (2 ∷ 0 ∷ 1 ∷ 3 ∷ []) $
         -- the inner allocator, the tokens of both lifetimes, and the block

@@ -219,17 +219,17 @@ module _ (Z : Al) (X : RattleType) {M : Type 1} {𝓤 : Ura M} (𝓛 : Logic �
         (raw (emp 𝓤))))) (grown_gives 𝓛 at_mem run old new each t) $
         await ! tt $ pick ! (λ bytes. learn ! (λ et. drop ! $
         lands_as ! et.0 refl (tt, record { fits = et.1 }) $
-        let told = at_taken Z 𝓛 at_mem run κ₁ κ₂ q₁ q₂ inside left self.now.left bytes in
-        let untold = at_returned Z 𝓛 at_mem run κ₁ κ₂ q₁ q₂ inside left self.now.left bytes in
+        let told = at_taken Z 𝓛 at_mem run κ₁ κ₂ q₁ q₂ inside left self.now.shared bytes in
+        let untold = at_returned Z 𝓛 at_mem run κ₁ κ₂ q₁ q₂ inside left self.now.shared bytes in
         -- the bytes are taken
         sets ! (addr ! (through ! refl (fld ! refl (stop !)))) refl (tt, tt) $
         use3 𝓛 (raw ((Taken Z 𝓛 at_mem run).pre told))
-        (taken_goes Z 𝓛 at_mem run κ₁ κ₂ q₁ q₂ inside left self.now.left bytes lives et.1) $
+        (taken_goes Z 𝓛 at_mem run κ₁ κ₂ q₁ q₂ inside left self.now.shared bytes lives et.1) $
         calls_at ! (fm_of 𝓤 H 𝓛.laws 𝓣) (Taken Z 𝓛 at_mem run) taken told
         (and_then ! (get ! refl) (and_then ! (get ! refl) (no_more !))) (λ u.
         use1 𝓛 (later (some (λ (is_it : Bool). given (u ≡ vbool is_it)
         (‵ (flft κ₁ q₁) ⊛ ‵ (flft κ₂ q₂) ⊛ ‵ ftrue))))
-        (taken_gives Z 𝓛 at_mem run κ₁ κ₂ q₁ q₂ inside left self.now.left bytes u) $
+        (taken_gives Z 𝓛 at_mem run κ₁ κ₂ q₁ q₂ inside left self.now.shared bytes u) $
         await ! tt $ pick ! (λ is_it. learn ! (λ eu. lands_as ! eu refl (tt, tt) $ split ! $
         sets ! (un ! (get ! refl) tt) refl (tt, tt) $ first ! $ branches ! (get ! refl)
         -- too few are left
@@ -274,11 +274,11 @@ module _ (Z : Al) (X : RattleType) {M : Type 1} {𝓤 : Ura M} (𝓛 : Logic �
         sets ! (addr ! (through ! refl (fld ! refl (stop !)))) refl (tt, tt) $
         move ! (4 ∷ 1 ∷ 3 ∷ []) $
         use3 𝓛 (raw ((Returned Z 𝓛 at_mem run).pre untold))
-        (returned_goes Z 𝓛 at_mem run κ₁ κ₂ q₁ q₂ inside left self.now.left bytes lives et.1) $
+        (returned_goes Z 𝓛 at_mem run κ₁ κ₂ q₁ q₂ inside left self.now.shared bytes lives et.1) $
         calls_at ! (fm_of 𝓤 H 𝓛.laws 𝓣) (Returned Z 𝓛 at_mem run) returned untold
         (and_then ! (get ! refl) (and_then ! (get ! refl) (no_more !))) (λ w.
         use1 𝓛 (later (given (w ≡ vunit) (‵ (flft κ₁ q₁) ⊛ ‵ (flft κ₂ q₂) ⊛ ‵ ftrue)))
-        (returned_gives Z 𝓛 at_mem run κ₁ κ₂ q₁ q₂ inside left self.now.left bytes w) $
+        (returned_gives Z 𝓛 at_mem run κ₁ κ₂ q₁ q₂ inside left self.now.shared bytes w) $
         await ! tt $ learn ! (λ ew. lands_as ! ew refl (tt, tt) $ split ! $
         sets ! (agg ! (no_more !)) refl (tt, tt) $
         sets_last ! (agg ! (and_then ! (lit ! tt) (and_then ! (get ! refl) (no_more !)))) refl
