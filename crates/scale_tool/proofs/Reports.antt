@@ -1,9 +1,10 @@
 -- What a refusal says of the job's files, from what the calls that refuse say.
 use Rattle.std.proofs.Common.{◌≡◌, ◌++◌, ◌∙◌, ap, ℕ, List, [], Option, Some, None, subst}
 use Rattle.std.proofs.Common.{inl, inr, refl}
-use Rattle.std.specs.Prelude.{IfSome, ◌⊎◌}
+use Rattle.std.specs.Prelude.{Bool, IfSome, false, ◌⊎◌}
 use Rattle.scale_calls.specs.declared.registry.OpenOptions.{OpenOptions}
 use Rattle.scale_calls.specs.Opened.{RefusesRegistry}
+use Rattle.scale_calls.specs.declared.metadata.MetadataRefusal.TheVariants as metadata
 use Rattle.scale_calls.specs.declared.refusal.RegistryRefusal.{RegistryRefusal}
 use Rattle.scale_calls.specs.declared.refusal.RegistryRefusal.TheVariants as types
 use Rattle.scale_tool.specs.Refused.{IsRejected, refusal_of_registry, status_of}
@@ -12,7 +13,7 @@ use Rattle.command_line.specs.declared.task.Job.TheVariants as job
 use Rattle.command_line.specs.declared.task.DecodeJob.{DecodeJob}
 use Rattle.command_line.specs.declared.task.Wanted.{Wanted}
 use Rattle.command_line.specs.declared.task.Wanted.TheVariants as wanted
-use Rattle.scale_tool.specs.Reported.{Faults, FaultsBy, FaultsRegistry}
+use Rattle.scale_tool.specs.Reported.{Faults, FaultsBy, FaultsMetadata, FaultsRegistry}
 use Rattle.scale_tool.specs.Reported.{FaultsWanted, Reports, Stands, refusal_line}
 use Rattle.scale_tool.specs.declared.refusal.Refusal.{Refusal}
 use Rattle.scale_tool.specs.declared.refusal.Refusal.TheVariants as refusal
@@ -83,14 +84,19 @@ stands registry value out Says refusal.ValueDevice r v o h = v refl
 stands registry value out Says refusal.OutputDevice r v o h = o refl
 stands registry value out Says e r v o h = says Says e (λ is. cc) h
 
+-- a failed allocation says nothing of metadata's bytes
+metadata_memory : (bits : Bool) (r : Option (List ℕ)) → FaultsMetadata bits r refusal.Memory
+metadata_memory bits None = inr (metadata.Memory, refl, tt)
+metadata_memory bits (Some b) = inr (metadata.Memory, refl, tt)
+
 -- a failed allocation says nothing of the files
 wanted_memory : (w : Wanted) (d : DecodeJob) (r v : Option (List ℕ)) →
     FaultsWanted w d r v refusal.Memory
 wanted_memory (wanted.Id id) d r v = tt
-wanted_memory (wanted.Name name) d r v = tt
+wanted_memory (wanted.Name name) d r v = inl (metadata_memory d.bits r)
 
 -- a failed allocation says nothing of the files of any job
 pub faults_memory : (j : Job) (r v : Option (List ℕ)) → Faults j r v refusal.Memory
 faults_memory (job.Types metadata) r v = tt
-faults_memory job.Names r v = tt
+faults_memory job.Names r v = metadata_memory false r
 faults_memory (job.Decode d) r v = wanted_memory d.wanted d r v

@@ -1,9 +1,12 @@
 -- What the command writes for its job.
-use Rattle.std.specs.Prelude.{◌≡◌, nat_lt, if◌then◌else◌, ℕ, List, [], ◌∷◌, ◌++◌, length, take}
+use Rattle.std.specs.Prelude.{◌≡◌, ◌<◌, nat_lt, if◌then◌else◌, ℕ, List, [], ◌∷◌, ◌++◌, ◌||◌}
 use Rattle.std.specs.Prelude.{Option, Some, None, Bool, true, false, option_map, option_and_then}
-use Rattle.std.specs.Prelude.{IfSome, string_bytes}
+use Rattle.std.specs.Prelude.{IfSome, codes, length, string_bytes, take}
 use Rattle.std.specs.Io.KnownBytes.{Appends, Keeps}
+use Rattle.std.specs.Str.{bytes_eq}
 use Rattle.types_core.specs.declared.type_info.TypeInfo.{TypeInfo}
+use Rattle.chain_core.specs.Names.{Entry, find}
+use Rattle.scale_calls.specs.Named.{Metadata, all_names, all_types}
 use Rattle.scale_calls.specs.Lines.{type_lines, version_line}
 use Rattle.scale_calls.specs.Opened.{checked_of, file_version}
 use Rattle.scale_calls.specs.declared.registry.OpenOptions.{OpenOptions}
@@ -17,6 +20,7 @@ use Rattle.command_line.specs.declared.task.ValueSource.{ValueSource}
 use Rattle.command_line.specs.declared.task.ValueSource.TheVariants as source
 use Rattle.command_line.specs.declared.task.Wanted.{Wanted}
 use Rattle.command_line.specs.declared.task.Wanted.TheVariants as wanted
+use Rattle.scale_tool.specs.Metadatas.{IsNamesText, IsOpened, metadata_of}
 use Rattle.scale_tool.specs.Values.{StopsFile, file_value, is_gathered}
 use Rattle.scale_tool.specs.declared.form.ValueJob.{ValueJob}
 use Rattle.scale_tool.specs.declared.text.Text.{Text}
@@ -43,6 +47,17 @@ value_job id d = record {
   id = id;
   limits = d.limits;
   form = record { hex = is_hex d.source; opaque = d.opaque };
+}
+
+-- the value of a job, of the type of a name; that of an extrinsic is opaque
+abbrev pub named_value : DecodeJob → List ℕ → Entry → ValueJob
+named_value d name e = record {
+  id = e.id;
+  limits = d.limits;
+  form = record {
+    hex = is_hex d.source;
+    opaque = d.opaque || bytes_eq name (codes "extrinsic");
+  };
 }
 
 -- ---- texts
@@ -74,6 +89,25 @@ abbrev pub value_line : OpenOptions → ValueJob → List ℕ → List ℕ → O
 value_line options v registry file =
     option_and_then (λ types. line_in v types file) (types_with options v.id registry)
 
+-- the line of the value of one name, whose bytes `bytes` gives
+abbrev pub entry_line : DecodeJob → List ℕ → (Entry → Option (List ℕ)) → List TypeInfo → Entry →
+    Option (List ℕ)
+entry_line d name bytes types e = option_and_then
+    (λ known. option_and_then (line_in (named_value d name e) known) (bytes e))
+    (with_position e.id types)
+
+-- the line of the value of the name that is found among these names and types
+abbrev pub found_line : DecodeJob → List ℕ → (Entry → Option (List ℕ)) → List TypeInfo →
+    List Entry → Option (List ℕ)
+found_line d name bytes types names =
+    option_and_then (entry_line d name bytes types) (find names name)
+
+-- the same in metadata, if its bytes aren't rejected
+abbrev pub named_line : DecodeJob → List ℕ → (Entry → Option (List ℕ)) → List ℕ →
+    Option (List ℕ)
+named_line d name bytes registry = option_and_then
+    (λ x. found_line d name bytes (all_types x) (all_names x)) (metadata_of d.bits registry)
+
 -- the text of a registry's types, if its bytes aren't rejected: the line of the version, if there
 -- is one, and a line for each type
 abbrev pub types_text : OpenOptions → List ℕ → Option (List ℕ)
@@ -87,19 +121,31 @@ abbrev pub OnLine : OpenOptions → ValueJob → Option (List ℕ) → Option (L
 OnLine options v registry file P =
     IfSome registry (λ r. IfSome file (λ f. P (value_line options v r f)))
 
--- the same for the type that a job gives; nothing is said of a type that has a name
+-- a property of how a name gives the bytes of its value, if they are known: the file holds them,
+-- or the metadata has them
+abbrev pub OnBytes : ValueSource → Option (List ℕ) → ((Entry → Option (List ℕ)) → Type 0) → Type 0
+OnBytes source.Metadata file P = P (λ e. e.bytes)
+OnBytes _ file P = IfSome file (λ f. P (λ e. Some f))
+
+-- a property of the line of a name's value, if the bytes that it depends on are known
+abbrev pub OnNamed : DecodeJob → List ℕ → Option (List ℕ) → Option (List ℕ) →
+    (Option (List ℕ) → Type 0) → Type 0
+OnNamed d name registry file P =
+    IfSome registry (λ r. OnBytes d.source file (λ bytes. P (named_line d name bytes r)))
+
+-- the same for the type that a job gives
 abbrev pub OnWanted : Wanted → DecodeJob → Option (List ℕ) → Option (List ℕ) →
     (Option (List ℕ) → Type 0) → Type 0
 OnWanted (wanted.Id id) d registry file P =
     OnLine (decode_options d) (value_job id d) registry file P
-OnWanted (wanted.Name name) d registry file P = Unit {0}
+OnWanted (wanted.Name name) d registry file P = OnNamed d (string_bytes name) registry file P
 
--- a property of the job's text, if the bytes that it depends on are known; nothing is said of the
--- lines of names
+-- a property of the job's text, if the bytes that it depends on are known
 abbrev pub OnText : Job → Option (List ℕ) → Option (List ℕ) → (Option (List ℕ) → Type 0) → Type 0
 OnText (job.Types metadata) registry file P =
     IfSome registry (λ r. P (types_text (opened_by metadata false) r))
-OnText job.Names registry file P = Unit {0}
+OnText job.Names registry file P =
+    IfSome registry (λ r. (text : Option (List ℕ)) × IsNamesText r text × P text)
 OnText (job.Decode d) registry file P = OnWanted d.wanted d registry file P
 
 -- the complete text was written
@@ -119,10 +165,20 @@ abbrev pub HasPosition : OpenOptions → ℕ → Option (List ℕ) → Type 0
 HasPosition options id registry =
     IfSome registry (λ r. (types : List TypeInfo) × (types_with options id r ≡ Some types))
 
+-- this is found for the name, and its type is one of these types
+abbrev pub HasEntry : List TypeInfo → List Entry → List ℕ → Entry → Type 0
+HasEntry types names name e = (find names name ≡ Some e) × (e.id < length types)
+
+-- the metadata's bytes, if they are known, aren't rejected, and it has the name
+abbrev pub HasName : Bool → List ℕ → Option (List ℕ) → Type 0
+HasName bits name registry = (x : Metadata) × (e : Entry) × IsOpened bits registry x
+    × HasEntry (all_types x) (all_names x) name e
+
 -- the same for the type that a job gives
 abbrev pub HasWanted : Wanted → OpenOptions → Option (List ℕ) → Type 0
 HasWanted (wanted.Id id) options registry = HasPosition options id registry
-HasWanted (wanted.Name name) options registry = Unit {0}
+HasWanted (wanted.Name name) options registry =
+    HasName options.bits (string_bytes name) registry
 
 -- the registry's bytes, if they are known, aren't rejected, and the type of the job's value is one
 -- of its types
@@ -144,12 +200,25 @@ StopsValue options v registry fails known left = (types : List TypeInfo)
     × IfSome registry (λ r. types_with options v.id r ≡ Some types)
     × StopsTyped v types fails known left
 
+-- reading the value of a name failed, which was found among these names and types
+abbrev pub StopsFound : DecodeJob → List ℕ → List TypeInfo → List Entry → (List ℕ → Type 0) →
+    Option (List ℕ) → Option (List ℕ) → Type 0
+StopsFound d name types names fails known left = (e : Entry) × HasEntry types names name e
+    × StopsTyped (named_value d name e) types fails known left
+
+-- the same in metadata, whose bytes, if they are known, aren't rejected
+abbrev pub StopsNamed : DecodeJob → List ℕ → Option (List ℕ) → (List ℕ → Type 0) →
+    Option (List ℕ) → Option (List ℕ) → Type 0
+StopsNamed d name registry fails known left = (x : Metadata) × IsOpened d.bits registry x
+    × StopsFound d name (all_types x) (all_names x) fails known left
+
 -- the same for the type that a job gives
 abbrev pub StopsWanted : Wanted → DecodeJob → Option (List ℕ) → (List ℕ → Type 0) →
     Option (List ℕ) → Option (List ℕ) → Type 0
 StopsWanted (wanted.Id id) d registry fails known left =
     StopsValue (decode_options d) (value_job id d) registry fails known left
-StopsWanted (wanted.Name name) d registry fails known left = Unit {0}
+StopsWanted (wanted.Name name) d registry fails known left =
+    StopsNamed d (string_bytes name) registry fails known left
 
 -- a read of the job's value failed
 abbrev pub StopsJob : Job → Option (List ℕ) → (List ℕ → Type 0) → Option (List ℕ) →

@@ -1,5 +1,6 @@
 pub mod Answer
 pub mod Devices
+pub mod Metadatas
 pub mod Moved
 pub mod Opaque
 pub mod Refused

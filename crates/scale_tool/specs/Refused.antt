@@ -2,6 +2,9 @@
 use Rattle.std.specs.Prelude.{◌≡◌, ℕ}
 use Rattle.decode_core.specs.declared.stream.StreamFault.{StreamFault}
 use Rattle.decode_core.specs.declared.stream.StreamFault.TheVariants as stream
+use Rattle.registry_core.specs.declared.fault.RegistryFault.{RegistryFault}
+use Rattle.registry_core.specs.declared.fault.RegistryReason.{RegistryReason}
+use Rattle.registry_core.specs.declared.fault.RegistryReason.TheVariants as reason
 use Rattle.scale_calls.specs.Refused.{opening_refusal, value_refusal}
 use Rattle.scale_calls.specs.declared.metadata.MetadataRefusal.{MetadataRefusal}
 use Rattle.scale_calls.specs.declared.metadata.MetadataRefusal.TheVariants as metadata
@@ -39,9 +42,14 @@ refusal_of_registry (types.TrailingBytes at) = refusal.TrailingRegistry at
 refusal_of_registry (types.Check unknown) = refusal.Check unknown
 refusal_of_registry types.Memory = refusal.Memory
 
+-- the refusal of a fault with this reason; an allocation failure is no fault of the bytes
+abbrev pub refusal_of_reason : RegistryReason → RegistryFault → Refusal
+refusal_of_reason reason.OutOfMemory fault = refusal.Memory
+refusal_of_reason _ fault = refusal.Registry fault
+
 -- the refusal of a job with names
 abbrev pub refusal_of_metadata : MetadataRefusal → Refusal
-refusal_of_metadata (metadata.Registry fault) = refusal.Registry fault
+refusal_of_metadata (metadata.Registry fault) = refusal_of_reason fault.reason fault
 refusal_of_metadata (metadata.Rest fault) = refusal.Rest fault
 refusal_of_metadata (metadata.TrailingBytes at) = refusal.TrailingRegistry at
 refusal_of_metadata (metadata.UnknownReference ty at) = refusal.UnknownReference ty at

@@ -1,14 +1,17 @@
 -- What the command reports if it writes no text: the line of a refusal, and what that says about
 -- the job's files.
-use Rattle.std.specs.Prelude.{◌≡◌, ◌≤◌, ℕ, List, [], ◌∷◌, ◌++◌, length, codes, decimal}
-use Rattle.std.specs.Prelude.{Option, Some, IfSome, false, string_bytes}
+use Rattle.std.specs.Prelude.{◌≡◌, ◌≤◌, ◌<◌, ◌⊎◌, ℕ, List, [], ◌∷◌, ◌++◌, length, codes, decimal}
+use Rattle.std.specs.Prelude.{Option, Some, None, IfSome, Bool, false, string_bytes}
 use Rattle.serde_json.specs.Data.{string}
 use Rattle.serde_json.specs.Written.{compact_text}
 use Rattle.types_core.specs.declared.type_info.TypeInfo.{TypeInfo}
 use Rattle.registry_core.specs.Names.{registry_fault_text}
 use Rattle.decode_core.specs.Names as decode
 use Rattle.decode_core.specs.Streaming.{query_of}
+use Rattle.chain_core.specs.Names.{Entry, find}
+use Rattle.scale_calls.specs.Named.{Metadata, RefusesMetadata, all_names, all_types}
 use Rattle.scale_calls.specs.Opened.{RefusesRegistry, checked_of}
+use Rattle.scale_calls.specs.declared.metadata.MetadataRefusal.{MetadataRefusal}
 use Rattle.scale_calls.specs.declared.refusal.RegistryRefusal.TheVariants as types
 use Rattle.scale_calls.specs.declared.registry.OpenOptions.{OpenOptions}
 use Rattle.hex_text.specs.declared.fault.HexFault.{HexFault}
@@ -18,10 +21,13 @@ use Rattle.command_line.specs.declared.device.Device.TheVariants as device
 use Rattle.command_line.specs.declared.task.DecodeJob.{DecodeJob}
 use Rattle.command_line.specs.declared.task.Job.{Job}
 use Rattle.command_line.specs.declared.task.Job.TheVariants as job
+use Rattle.command_line.specs.declared.task.ValueSource.{ValueSource}
+use Rattle.command_line.specs.declared.task.ValueSource.TheVariants as source
 use Rattle.command_line.specs.declared.task.Wanted.{Wanted}
 use Rattle.command_line.specs.declared.task.Wanted.TheVariants as wanted
-use Rattle.scale_tool.specs.Answer.{decode_options, opened_by, types_with, value_job}
-use Rattle.scale_tool.specs.Refused.{status_of}
+use Rattle.scale_tool.specs.Answer.{decode_options, named_value, opened_by, types_with, value_job}
+use Rattle.scale_tool.specs.Metadatas.{IsOpened}
+use Rattle.scale_tool.specs.Refused.{refusal_of_metadata, status_of}
 use Rattle.scale_tool.specs.Values.{ReportsFile}
 use Rattle.scale_tool.specs.declared.form.ValueJob.{ValueJob}
 use Rattle.scale_tool.specs.declared.refusal.Refusal.{Refusal}
@@ -126,21 +132,49 @@ abbrev pub FaultsLine : OpenOptions → ValueJob → Option (List ℕ) → Optio
 FaultsLine options v r file e =
     FaultsBy options (LacksPosition options v.id) (FaultsFile options v r file) r e
 
--- a refusal of a job with names: nothing was written yet
-abbrev pub IsNoOutput : Refusal → Type 0
-IsNoOutput refusal.OutputDevice = ⊥
-IsNoOutput _ = Unit {0}
+-- what a refusal says about metadata's bytes, if they are known: why they are rejected, unless a
+-- read or an allocation failed
+abbrev pub FaultsMetadata : Bool → Option (List ℕ) → Refusal → Type 0
+FaultsMetadata bits r e = (e ≡ refusal.RegistryDevice) ⊎ ((m : MetadataRefusal)
+    × (e ≡ refusal_of_metadata m) × IfSome r (λ b. RefusesMetadata bits b m))
+
+-- what it says about the bytes that metadata has for a name: there are none, or they are rejected
+abbrev pub FaultsHeld : ValueJob → List TypeInfo → Option (List ℕ) → Refusal → Type 0
+FaultsHeld v types None e = e ≡ refusal.NoBytes
+FaultsHeld v types (Some b) e = FaultsTyped v types (Some b) e
+
+-- what it says about the bytes of a name's value, which its file holds or the metadata has
+abbrev pub FaultsBytes : ValueSource → ValueJob → List TypeInfo → Option (List ℕ) →
+    Option (List ℕ) → Refusal → Type 0
+FaultsBytes source.Metadata v types held file e = FaultsHeld v types held e
+FaultsBytes _ v types held file e = FaultsTyped v types file e
+
+-- what it says about what is found for a name: nothing is, these types lack its type, or its value
+-- is rejected
+abbrev pub FaultsFound : DecodeJob → List ℕ → List TypeInfo → Option (List ℕ) → Option Entry →
+    Refusal → Type 0
+FaultsFound d name types file None e = e ≡ refusal.UnknownName
+FaultsFound d name types file (Some found) e =
+    ((e ≡ refusal.UnknownType found.id) × (length types ≤ found.id)) ⊎ ((found.id < length types)
+    × FaultsBytes d.source (named_value d name found) types found.bytes file e)
+
+-- what it says if a value of the type of a name is read: the metadata is rejected, or it isn't, and
+-- the name or its value is
+abbrev pub FaultsNamed : DecodeJob → List ℕ → Option (List ℕ) → Option (List ℕ) → Refusal → Type 0
+FaultsNamed d name r file e = FaultsMetadata d.bits r e ⊎ ((x : Metadata) × IsOpened d.bits r x
+    × FaultsFound d name (all_types x) file (find (all_names x) name) e)
 
 -- what a refusal says about a value of the type that a job gives
 abbrev pub FaultsWanted : Wanted → DecodeJob → Option (List ℕ) → Option (List ℕ) → Refusal → Type 0
 FaultsWanted (wanted.Id id) d registry file e =
     FaultsLine (decode_options d) (value_job id d) registry file e
-FaultsWanted (wanted.Name name) d registry file e = IsNoOutput e
+FaultsWanted (wanted.Name name) d registry file e =
+    FaultsNamed d (string_bytes name) registry file e
 
 -- what a refusal says about the bytes of the registry and the value, if these are known
 abbrev pub Faults : Job → Option (List ℕ) → Option (List ℕ) → Refusal → Type 0
 Faults (job.Types metadata) r v e = FaultsRegistry (opened_by metadata false) r e
-Faults job.Names r v e = IsNoOutput e
+Faults job.Names r v e = FaultsMetadata false r e
 Faults (job.Decode d) r v e = FaultsWanted d.wanted d r v e
 
 -- the name that a job has for its type, or none

@@ -3,14 +3,14 @@
 
 ghost use Rattle.std.specs.Prelude.{◌≡◌, IfNone, IfSome};
 ghost use Rattle.scale_tool.specs.Refused.{IsRejected, refusal_of_hex, refusal_of_metadata};
-ghost use Rattle.scale_tool.specs.Refused.{refusal_of_registry, status_of};
+ghost use Rattle.scale_tool.specs.Refused.{refusal_of_reason, refusal_of_registry, status_of};
 ghost use Rattle.scale_tool.specs.Reported.{refusal_line};
 ghost use Rattle.scale_tool.specs.declared.refusal.Refusal.TheVariants.{Memory};
 
 use command_line::Device;
 use decode_core::DecodeFault;
 use hex_text::{HexFault, HexRefusal};
-use registry_core::RegistryFault;
+use registry_core::{RegistryFault, RegistryReason};
 use scale_calls::{MetadataRefusal, RegistryRefusal, UnknownReference};
 use std::alloc::AllocError;
 
@@ -90,12 +90,23 @@ impl From<RegistryRefusal> for Refusal {
     }
 }
 
+/// Returns the refusal of a fault of metadata's registry; a failed allocation is no fault of the
+/// bytes.
+fn of_fault(fault: RegistryFault) -> Refusal
+    ensures { result ≡ refusal_of_reason fault.reason fault }
+{
+    match fault.reason {
+        RegistryReason::OutOfMemory => Refusal::Memory,
+        _ => Refusal::Registry(fault),
+    }
+}
+
 impl From<MetadataRefusal> for Refusal {
     ghost from_gives = { λ f r. r ≡ refusal_of_metadata f };
 
     fn from(refusal: MetadataRefusal) -> Refusal {
         match refusal {
-            MetadataRefusal::Registry(fault) => Refusal::Registry(fault),
+            MetadataRefusal::Registry(fault) => of_fault(fault),
             MetadataRefusal::Rest(fault) => Refusal::Rest(fault),
             MetadataRefusal::TrailingBytes(at) => Refusal::TrailingRegistry(at),
             MetadataRefusal::UnknownReference { ty, at } => Refusal::UnknownReference { ty, at },

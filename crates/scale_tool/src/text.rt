@@ -1,7 +1,7 @@
 //! The text of an answer, and that of a value.
 
-ghost use Rattle.std.specs.Prelude.{◌≡◌, ◌⊎◌, ◌<◌, length, true, Some, None, IfOk, IfErr, IfSome};
-ghost use Rattle.std.specs.Prelude.{IsErrOf, string_bytes};
+ghost use Rattle.std.specs.Prelude.{◌≡◌, ◌⊎◌, ◌<◌, length, true, false, Some, None, IfOk};
+ghost use Rattle.std.specs.Prelude.{IfErr, IfSome, IsErrOf, string_bytes};
 ghost use Rattle.decode_core.specs.Streaming.{FailsAfter};
 ghost use Rattle.scale_tool.specs.Answer.{StopsTyped, line_in, line_of, text_bytes};
 ghost use Rattle.scale_tool.specs.Refused.{IsDevice, IsRejected};
@@ -118,7 +118,13 @@ fn held_line<A: Allocator + Clone>(
 ) -> Result<String<A>, Refusal>
     requires known { job.id < length checked.now.types }
     requires limits { AreInRange job.limits }
-    ensures { IfErr result (λ e. IsDevice e → ⊥) }
+    requires held { job.form.hex ≡ false }
+    ensures ok { IfOk result
+        (λ text. line_in job checked.now.types bytes.now ≡ Some (string_bytes text)) }
+    ensures refused { IfErr result
+        (λ e. IsRejected e → line_in job checked.now.types bytes.now ≡ None) }
+    ensures faults { IfErr result (FaultsTyped job checked.now.types (Some bytes.now)) }
+    ensures device { IfErr result (λ e. IsDevice e → ⊥) }
 {
     let text_memory = memory.clone()?;
     match spelled_value(memory, checked, job, bytes) {
@@ -137,7 +143,13 @@ pub(crate) fn held_text(
 ) -> Result<Text, Refusal>
     requires known { job.id < length checked.now.types }
     requires limits { AreInRange job.limits }
-    ensures { IfErr result (λ e. IsDevice e → ⊥) }
+    requires held { job.form.hex ≡ false }
+    ensures ok { IfOk result
+        (λ text. line_in job checked.now.types bytes.now ≡ Some (text_bytes text)) }
+    ensures refused { IfErr result
+        (λ e. IsRejected e → line_in job checked.now.types bytes.now ≡ None) }
+    ensures faults { IfErr result (FaultsTyped job checked.now.types (Some bytes.now)) }
+    ensures device { IfErr result (λ e. IsDevice e → ⊥) }
 {
     let Some(most) = memory else {
         return Ok(Text::Plain(held_line(alloc, alloc, checked, job, bytes)?));
