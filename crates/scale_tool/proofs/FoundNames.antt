@@ -55,6 +55,7 @@ line_is d name r bytes types names x t is all_types_are all_names_are h =
     ∙ ap (λ (ts : List TypeInfo). found_line d name bytes ts (all_names x)) (sym all_types_are)
     ∙ ap (λ (ns : List Entry). found_line d name bytes types ns) (sym all_names_are) ∙ h
 
+-- so it is that of bytes that may be known
 pub named_found : (d : DecodeJob) (name : List ℕ) (registry file : Option (List ℕ))
     (types : List TypeInfo) (names : List Entry) (x : Metadata) (t : Option (List ℕ)) →
     IsOpened d.bits registry x → types ≡ all_types x → names ≡ all_names x →

@@ -18,10 +18,12 @@ use Rattle.scale_calls.specs.declared.metadata.MetadataRefusal.TheVariants as me
 use Rattle.scale_tool.specs.Metadatas.{checked_metadata, metadata_from, metadata_of, unless}
 use Rattle.scale_tool.specs.Refused.{IsRejected, refusal_of_metadata, refusal_of_reason, status_of}
 
+-- without a fault it is the second
 unless_none : {A B : Type 0} (o : Option A) (x : Option B) → o ≡ None → unless o x ≡ x
 unless_none None x is = refl
 unless_none (Some f) x is = absurd cc
 
+-- with a fault it is none
 unless_some : {A B : Type 0} (o : Option A) (x : Option B) (f : A) → o ≡ Some f →
     unless o x ≡ None
 unless_some None x f is = absurd cc
@@ -29,6 +31,7 @@ unless_some (Some g) x f is = refl
 
 -- ---- metadata
 
+-- metadata whose references all are positions is checked
 known_is : (m : Metadata) → IsKnown m → checked_metadata m ≡ Some m
 known_is m h = unless_none _ _ h.rest ∙ unless_none _ _ h.own ∙ unless_none _ _ h.all
 
@@ -41,6 +44,7 @@ unfolding metadata_of
 read_is bits b left types v rest read is = ap (metadata_from bits) read ∙ ap (option_and_then
     (λ r. checked_metadata (record { version = v; own = types_by bits types; rest = r }))) is
 
+-- bytes that are this metadata give it
 pub metadata_is : (bits : Bool) (b : List ℕ) (x : Metadata) → IsMetadata bits b x →
     metadata_of bits b ≡ Some x
 metadata_is bits b x h = read_is bits b h.left h.types x.version (Some x.rest) h.read h.rest
@@ -50,12 +54,14 @@ metadata_is bits b x h = read_is bits b h.left h.types x.version (Some x.rest) h
 
 -- ---- bytes that are rejected
 
+-- a reference of the types is no position
 types_none : (m : Metadata) (fault : ℕ × ℕ) → (first_fault m.own ≡ Some fault)
     ⊎ ((first_fault m.own ≡ None) × (first_fault (all_types m) ≡ Some fault)) →
     unless (first_fault m.own) (unless (first_fault (all_types m)) (Some m)) ≡ None
 types_none m fault (inl own) = unless_some _ _ fault own
 types_none m fault (inr h) = unless_none _ _ h.0 ∙ unless_some _ _ fault h.1
 
+-- a reference is no position, so there is no metadata
 references_none : (m : Metadata) (end : ℕ) (r : MetadataRefusal) → RefusesReferences m end r →
     IsRejected (refusal_of_metadata r) → checked_metadata m ≡ None
 references_none m end (metadata.UnknownReference ty at) h one = unless_some _ _ (ty, h.0) h.1
@@ -64,6 +70,7 @@ references_none m end (metadata.Check unknown) h one =
 references_none m end metadata.Memory h one = absurd cc
 references_none m end _ h one = absurd h
 
+-- what follows the registry is rejected, so it has no value
 rest_none : (v : Version) (left : List ℕ) (end : ℕ) (r : MetadataRefusal) →
     RefusesRest v left end r → IsRejected (refusal_of_metadata r) → rest_in v left ≡ None
 rest_none v left end (metadata.Rest f) h one = h.0
@@ -98,6 +105,7 @@ unfolding metadata_of
 fault_none bits b f (inl memory) one = absurd (memory_none f memory one)
 fault_none bits b f (inr h) one = ap (metadata_from bits) h.1
 
+-- bytes that are rejected with status 1 are no metadata
 pub metadata_none : (bits : Bool) (b : List ℕ) (r : MetadataRefusal) → RefusesMetadata bits b r →
     IsRejected (refusal_of_metadata r) → metadata_of bits b ≡ None
 metadata_none bits b metadata.Memory h one = absurd cc

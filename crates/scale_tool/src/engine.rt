@@ -281,10 +281,11 @@ pub fn run<R: ReadOnce, V: ReadOnce, W: WriteOnce, E: WriteOnce>(
         (Faults job (R.remaining registry.old.device) (V.remaining value.old.device)))
         (Sends E.writes E.contents err.old err.new) result }
 
-    // The job that shows types does not touch the value.
+    // A job that needs only its registry does not touch the value.
     ensures unread { ReadsNoValue job → value.new ≡ value.old }
 
-    // The value is untouched if the registry is rejected, its device fails, or it lacks the type.
+    // The value is untouched if the registry is rejected, its device fails, or it lacks the type or
+    // its name.
     ensures read_last { (value.new ≡ value.old) ⊎ ((registry.new.failed ≡ registry.old.failed)
         × HasJobType job (R.remaining registry.old.device)) }
 {

@@ -95,6 +95,7 @@ impl From<RegistryRefusal> for Refusal {
 fn of_fault(fault: RegistryFault) -> Refusal
     ensures { result ≡ refusal_of_reason fault.reason fault }
 {
+    // `open_metadata` returns `Memory` for it, but its contract does not say so.
     match fault.reason {
         RegistryReason::OutOfMemory => Refusal::Memory,
         _ => Refusal::Registry(fault),
