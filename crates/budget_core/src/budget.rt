@@ -24,7 +24,7 @@ pub struct Budget<B: Allocator> {
 /// What all clones of a budget share.
 #[derive(Drop)]
 struct Shared {
-    /// The number of bytes that the budget is made of. It is kept for contracts alone.
+    /// The number of bytes that the budget is made of. Contracts alone read it.
     bytes: u64,
     left: Cell<u64>,
 }

@@ -52,7 +52,7 @@ WritesUnlessMemory text old new a = Leaves old new (plain 3) a ⊎ Writes text o
 
 -- the number of bytes of the budget that a call or a session allocates in; 0 stands for no budget
 abbrev pub call_bytes : CallBudget → ℕ
-call_bytes b = budget_bytes b.budget
+call_bytes b = budget_bytes b.alloc
 
 -- ---- registries
 

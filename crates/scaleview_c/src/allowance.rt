@@ -1,7 +1,6 @@
 //! The memory that C allows a call or a session, and the budget of exactly that.
 
 ghost use Rattle.std.specs.Prelude.{◌≡◌, IfOk};
-ghost use Rattle.budget_core.specs.Bytes.{budget_bytes};
 ghost use Rattle.json_core.specs.Json.{json_text};
 ghost use Rattle.scaleview_c.specs.Calls.{WritesUnlessMemory, call_bytes};
 
@@ -12,7 +11,8 @@ use std::alloc::{AllocError, Global};
 use value_core::Value;
 
 /// How many bytes the library may hold at once for a value and its text, where 0 stands for no
-/// budget. It is the argument `memory`: only C makes one.
+/// budget.
+// It is the argument `memory`. The field is private and nothing here makes one, so only C does.
 #[repr(C)]
 #[derive(Clone, Copy)]
 pub struct Allowance {
@@ -23,38 +23,36 @@ pub struct Allowance {
 // A function that is passed this and no `Global` can allocate in no other budget.
 #[derive(Drop)]
 pub struct CallBudget {
+    /// Its clones allocate in the budget.
+    pub(crate) alloc: Budget<Global>,
+    /// For the orders of keys, which don't count.
     heap: Global,
-    budget: Budget<Global>,
 }
 
 impl Allowance {
     /// Creates the budget of exactly this many bytes.
-    pub(crate) fn budget(self, alloc: Global) -> Result<CallBudget, AllocError>
+    ///
+    /// # Errors
+    ///
+    /// `AllocError` if the allocation of its count fails.
+    pub fn budget(self, alloc: Global) -> Result<CallBudget, AllocError>
         ensures { IfOk result (λ budget. call_bytes budget ≡ self.bytes) }
     {
-        let budget = Budget::new(alloc, self.bytes)?;
         Ok(CallBudget {
+            alloc: Budget::new(alloc, self.bytes)?,
             heap: alloc,
-            budget,
         })
     }
 }
 
 impl CallBudget {
-    /// Returns an allocator in this budget.
-    pub(crate) fn alloc(&self) -> Result<Budget<Global>, AllocError>
-        ensures { IfOk result (λ alloc. budget_bytes alloc ≡ call_bytes self.now) }
-    {
-        self.budget.clone()
-    }
-
-    /// Writes the JSON of a value to the front of `out`, if it fits, by way of a text in the budget.
-    /// If an allocation fails, it reports that, and `out` is unchanged.
+    /// Writes the JSON of a value to the front of `out`, if it fits, by way of a text in the
+    /// budget. If an allocation fails, it reports that, and `out` is unchanged.
     pub(crate) fn put_json(&self, value: &Value<'_, Budget<Global>>, out: &mut [u8]) -> Answer
         ensures { WritesUnlessMemory (json_text value.now) out.old out.new result }
     {
         let room = out.len();
-        let Ok(text_alloc) = self.alloc() else {
+        let Ok(text_alloc) = self.alloc.clone() else {
             return Answer::plain(MEMORY);
         };
         match json_to_slice(self.heap, text_alloc, value, out) {

@@ -1,9 +1,8 @@
 //! The calls that pass the nodes of a value as records.
 
-ghost use Rattle.std.specs.Prelude.{◌≡◌, IfOk};
-ghost use Rattle.node_core.specs.Encoding.{IsEncoding};
+ghost use Rattle.std.specs.Prelude.{◌≡◌};
 ghost use Rattle.value_core.specs.Refusals.{build_opening_fault};
-ghost use Rattle.scaleview_c.specs.Nodes.{DecodesNodes, Encodes, EncodesNodes, EncodesRecords};
+ghost use Rattle.scaleview_c.specs.Nodes.{DecodesNodes, Encodes, EncodesNodes};
 ghost use Rattle.scaleview_c.specs.Nodes.{FinishesNodes, PutsNodes, PutsStage, WritesValueNodes};
 
 use crate::allowance::{Allowance, CallBudget};
@@ -61,7 +60,7 @@ fn write_nodes(
     ensures { WritesValueNodes opened.now id limits bytes.now nodes.old nodes.new pool.old
         pool.new result }
 {
-    let Ok(alloc) = budget.alloc() else {
+    let Ok(alloc) = budget.alloc.clone() else {
         return Answer::of_value(ValueRefusal::Memory);
     };
     match read_value(alloc, &opened.checked, id, limits, bytes) {
@@ -140,20 +139,6 @@ pub extern "C" fn scaleview_finish_nodes(
     answer.code
 }
 
-/// Returns the bytes that spell a value, in the budget of memory.
-fn bytes_of(
-    budget: Budget<Global>,
-    value: &Value<'_, Budget<Global>>,
-) -> Result<Vec<u8, Budget<Global>>, AllocError>
-    ensures { IfOk result (λ bytes. IsEncoding value.now bytes.items) }
-{
-    let mut sink = Sink::new(Vec::new(budget));
-    match encode(value, &mut sink) {
-        Ok(()) => Ok(sink.into_inner()),
-        Err(_) => Err(AllocError),
-    }
-}
-
 /// Returns why no value of a type can be begun. It allocates nothing.
 fn opening_fault(opened: &Opened, id: u32, depth: u16) -> Option<BuildFault>
     ensures { result ≡ build_opening_fault opened.now.checked.types id depth }
@@ -167,41 +152,12 @@ fn opening_fault(opened: &Opened, id: u32, depth: u16) -> Option<BuildFault>
     None
 }
 
-/// Writes the bytes that spell the value whose nodes these records are. Both are in the budget.
-fn write_spelling(
-    budget: &CallBudget,
-    opened: &Opened,
-    id: u32,
-    depth: u16,
-    nodes: &[Record],
-    pool: &[u8],
-    out: &mut [u8],
-) -> Answer
-    ensures { EncodesRecords opened.now.checked.types id depth nodes.now pool.now out.old out.new
-        result }
-{
-    let Ok(alloc) = budget.alloc() else {
-        return Answer::plain(MEMORY);
-    };
-    let Ok(value_alloc) = budget.alloc() else {
-        return Answer::plain(MEMORY);
-    };
-    match value_of_records(value_alloc, &opened.checked, TypeId(id), depth, nodes, pool) {
-        Ok(value) => match bytes_of(alloc, &value) {
-            Ok(bytes) => put(out, bytes.as_slice()),
-            Err(_) => Answer::plain(MEMORY),
-        },
-        Err(fault) => Answer::of_records(fault),
-    }
-}
-
-/// Writes the bytes that spell the value whose nodes these records are, in a budget of this memory.
+/// Writes the bytes that spell the value whose nodes these records are, both in the budget.
 fn write_encoded(
-    alloc: Global,
+    budget: Result<CallBudget, AllocError>,
     opened: &Opened,
     id: u32,
     depth: u16,
-    memory: Allowance,
     nodes: &[Record],
     pool: &[u8],
     out: &mut [u8],
@@ -212,9 +168,21 @@ fn write_encoded(
     if let Some(fault) = opening_fault(opened, id, depth) {
         return Answer::of_records(RecordFault::Open(fault));
     }
-    match memory.budget(alloc) {
-        Ok(budget) => write_spelling(&budget, opened, id, depth, nodes, pool, out),
-        Err(_) => Answer::plain(MEMORY),
+    let Ok(budget) = budget else {
+        return Answer::plain(MEMORY);
+    };
+    let Ok(value_alloc) = budget.alloc.clone() else {
+        return Answer::plain(MEMORY);
+    };
+    match value_of_records(value_alloc, &opened.checked, TypeId(id), depth, nodes, pool) {
+        Ok(value) => {
+            let mut sink = Sink::new(Vec::new(budget.alloc));
+            match encode(&value, &mut sink) {
+                Ok(()) => put(out, sink.into_inner().as_slice()),
+                Err(_) => Answer::plain(MEMORY),
+            }
+        }
+        Err(fault) => Answer::of_records(fault),
     }
 }
 
@@ -244,7 +212,7 @@ pub extern "C" fn scaleview_encode_nodes(
 {
     *answer = match registry.get() {
         Some(Resource::Registry(opened)) => {
-            write_encoded(alloc, opened, id, depth, memory, nodes, pool, out)
+            write_encoded(memory.budget(alloc), opened, id, depth, nodes, pool, out)
         }
         Some(Resource::Session(_)) | None => Answer::plain(NO_HANDLE),
     };

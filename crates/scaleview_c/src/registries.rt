@@ -19,6 +19,7 @@ use scale_calls::{
     open_registry, read_value, type_line,
 };
 use std::alloc::Global;
+use std::cell::Cell;
 use std::mem;
 use value_core::Limits;
 
@@ -56,7 +57,12 @@ fn open_types(
         Err(refusal) => return Err(Answer::of_registry(refusal)),
     };
     let answer = Answer::of_opened(version, end, checked.registry().types().len());
-    match Box::new(alloc, Resource::Registry(Opened::new(checked, None))) {
+    let opened = Opened {
+        checked,
+        names: None,
+        sessions: Cell::new(0),
+    };
+    match Box::new(alloc, Resource::Registry(opened)) {
         Ok(held) => Ok((held, answer)),
         Err(_) => Err(Answer::of_registry(RegistryRefusal::Memory)),
     }
@@ -77,7 +83,12 @@ fn open_names(alloc: Global, bits: bool, bytes: &[u8]) -> Result<(Box<Resource>,
         Err(refusal) => return Err(Answer::of_metadata(refusal)),
     };
     let answer = Answer::of_opened(Some(version), end, checked.registry().types().len());
-    match Box::new(alloc, Resource::Registry(Opened::new(checked, Some(names)))) {
+    let opened = Opened {
+        checked,
+        names: Some(names),
+        sessions: Cell::new(0),
+    };
+    match Box::new(alloc, Resource::Registry(opened)) {
         Ok(held) => Ok((held, answer)),
         Err(_) => Err(Answer::of_metadata(MetadataRefusal::Memory)),
     }
@@ -218,7 +229,7 @@ fn write_value(
 ) -> Answer
     ensures { WritesJson opened.now id limits bytes.now out.old out.new result }
 {
-    let Ok(alloc) = budget.alloc() else {
+    let Ok(alloc) = budget.alloc.clone() else {
         return Answer::plain(MEMORY);
     };
     match read_value(alloc, &opened.checked, id, limits, bytes) {

@@ -31,7 +31,7 @@ fn session_in(
 ) -> Result<Session, ValueRefusal>
     ensures { StartsBox held.Session registry.now id limits (call_bytes budget) result }
 {
-    let decoder = Decoder::new(budget.alloc()?, &registry.checked, TypeId(id), limits)?;
+    let decoder = Decoder::new(budget.alloc.clone()?, &registry.checked, TypeId(id), limits)?;
     Ok(Session {
         stage: Stage::Decoding(decoder),
         registry,
