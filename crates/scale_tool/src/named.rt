@@ -102,7 +102,7 @@ fn named_value(job: &DecodeJob, name: &str, found: &NamedType) -> ValueJob
     value
 }
 
-/// Returns the text of the value of a name, which was found and whose type these are.
+/// Returns the text of the value `wanted`, whose name was found.
 fn found_text<V: ReadOnce>(
     alloc: Global,
     job: &DecodeJob,
