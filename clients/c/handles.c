@@ -588,6 +588,34 @@ static void check_null_values(scaleview_registry registry) {
     check("encoded without a pool", is_answer(answer, SCALEVIEW_OK, 0, 1) && out[0] == 0);
 }
 
+/* Numbers of a node that its kind gives no meaning have to be 0. The types are one without bytes, u8 and text. */
+static void check_spare_numbers(scaleview_registry registry) {
+    static const struct {
+        scaleview_node node; /* kind, type, children, arm, low, high */
+        uint32_t code;
+    } nodes[] = {
+        {{SCALEVIEW_NODE_EMPTY, 0, 0, 0, 0, 0}, SCALEVIEW_OK},
+        {{SCALEVIEW_NODE_EMPTY, 0, 3, 0, 0, 0}, SCALEVIEW_NODES_OUT_OF_RANGE},
+        {{SCALEVIEW_NODE_EMPTY, 0, 0, 1, 0, 0}, SCALEVIEW_NODES_OUT_OF_RANGE},
+        {{SCALEVIEW_NODE_EMPTY, 0, 0, 0, 9, 0}, SCALEVIEW_NODES_OUT_OF_RANGE},
+        {{SCALEVIEW_NODE_EMPTY, 0, 0, 0, 0, 77}, SCALEVIEW_NODES_OUT_OF_RANGE},
+        {{SCALEVIEW_NODE_UNSIGNED, 1, 0, 0, 7, 0}, SCALEVIEW_OK},
+        {{SCALEVIEW_NODE_UNSIGNED, 1, 4000000000, 0, 7, 0}, SCALEVIEW_NODES_OUT_OF_RANGE},
+        {{SCALEVIEW_NODE_UNSIGNED, 1, 0, 7, 7, 0}, SCALEVIEW_NODES_OUT_OF_RANGE},
+        {{SCALEVIEW_NODE_UNSIGNED, 1, 0, 0, 7, 1}, SCALEVIEW_NODES_OUT_OF_RANGE},
+        {{SCALEVIEW_NODE_TEXT, 4, 0, 0, 0, 0}, SCALEVIEW_OK},
+        {{SCALEVIEW_NODE_TEXT, 4, 9, 0, 0, 0}, SCALEVIEW_NODES_OUT_OF_RANGE},
+        {{SCALEVIEW_NODE_TEXT, 4, 0, 1, 0, 0}, SCALEVIEW_NODES_OUT_OF_RANGE},
+    };
+    scaleview_answer answer;
+    uint8_t out[8];
+    for (size_t i = 0; i < sizeof nodes / sizeof *nodes; i++) {
+        const scaleview_node *node = &nodes[i].node;
+        uint32_t code = scaleview_encode_nodes(registry, node->type, 64, 0, node, 1, NULL, 0, out, sizeof out, &answer);
+        check("a number without a meaning", code == nodes[i].code && answer.at == 0);
+    }
+}
+
 /* By the calls on a session of this type, whose value is the one byte 7, or none. */
 static void check_null_session(scaleview_registry registry, uint32_t type, size_t length) {
     scaleview_session session = {NULL};
@@ -620,6 +648,7 @@ static void check_null(void) {
     check("opened", scaleview_open(small_registry, sizeof small_registry, 0, &registry, &answer) == SCALEVIEW_OK);
     check_null_names(registry);
     check_null_values(registry);
+    check_spare_numbers(registry);
     check_null_session(registry, 0, 0);
     check_null_session(registry, 1, 1);
     check("closed", scaleview_close(&registry) == SCALEVIEW_OK);
