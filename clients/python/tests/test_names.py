@@ -67,6 +67,7 @@ class Refusals(unittest.TestCase):
             (lambda: metadata.errors("Other"), "errors:Other"),
             (lambda: metadata.result("Core", "check"), "result:Core.check"),
             (lambda: metadata.params("Pool", "run"), "params:Pool.run"),
+            (lambda: metadata.api("Pool", "run"), "params:Pool.run"),
             (lambda: metadata.custom("é\n"), "custom:é\n"),
         ]
         for call, name in calls:
@@ -142,6 +143,8 @@ class Names(unittest.TestCase):
             (metadata.constant("Other", "Pair"), "constant:Other.Pair", 5),
             (metadata.result("Core", "run"), "result:Core.run", 4),
             (metadata.params("Core", "run"), "params:Core.run", 20),
+            (metadata.api("Pool", "check").params, "params:Pool.check", 21),
+            (metadata.api("Pool", "check").result, "result:Pool.check", 5),
             (metadata.custom("Sys.Now"), "custom:Sys.Now", 0),
             (metadata.type_of("storage:Sys.Owner"), "storage:Sys.Owner", 2),
         ):

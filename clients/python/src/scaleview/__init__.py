@@ -61,6 +61,7 @@ __all__ = [
     "Bits",
     "Type",
     "Named",
+    "Method",
     "Field",
     "Arm",
     "Refused",
@@ -208,6 +209,15 @@ class Named(Type):
 
     def __repr__(self) -> str:
         return f"<Named {self.name}, type {self.id}>"
+
+
+class Method(NamedTuple):
+    """A method of a runtime API."""
+
+    #: The type of what it takes: a composite with a field for each input.
+    params: Named
+    #: The type of what it returns.
+    result: Named
 
 
 class Types(Sequence[Type]):
@@ -370,6 +380,10 @@ class Metadata(Registry):
     def error(self) -> Named:
         """Returns the type of the errors of all pallets, which metadata of version 14 doesn't name."""
         return self.type_of("error")
+
+    def api(self, api: str, method: str) -> Method:
+        """Returns what a method of a runtime API takes and returns. Metadata of version 14 names no methods."""
+        return Method(self.params(api, method), self.result(api, method))
 
     def result(self, api: str, method: str) -> Named:
         """Returns the type of what a method of a runtime API returns. Metadata of version 14 names no methods."""

@@ -55,7 +55,7 @@ pub use convert::TryFromValueError;
 pub use error::{Error, NodeReason, RegistryReason, ValueReason};
 pub use item::{Item, Source};
 pub use limits::{Limits, Memory};
-pub use metadata::{Metadata, Named, Names};
+pub use metadata::{Metadata, Method, Named, Names};
 pub use options::OpenOptions;
 pub use registry::Registry;
 pub use session::{AnySession, OwnedSession, Progress, RegistryRef, Session};

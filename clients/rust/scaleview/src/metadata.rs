@@ -137,6 +137,15 @@ impl Metadata {
         self.named("error")
     }
 
+    /// Returns what a method of a runtime API takes and returns. Metadata of version 14 names no
+    /// methods.
+    pub fn api(&self, api: &str, method: &str) -> Option<Method<'_>> {
+        Some(Method {
+            params: self.params(api, method)?,
+            result: self.result(api, method)?,
+        })
+    }
+
     /// Returns the type of what a method of a runtime API returns. Metadata of version 14 names no
     /// methods.
     pub fn result(&self, api: &str, method: &str) -> Option<Named<'_>> {
@@ -217,6 +226,15 @@ impl Deref for Metadata {
     fn deref(&self) -> &Registry {
         &self.registry
     }
+}
+
+/// A method of a runtime API.
+#[derive(Clone, Debug)]
+pub struct Method<'m> {
+    /// The type of what it takes: a composite with a field for each input.
+    pub params: Named<'m>,
+    /// The type of what it returns.
+    pub result: Named<'m>,
 }
 
 /// A type by the name that metadata gives to it.

@@ -40,6 +40,8 @@ fn names_are_found_by_their_parts() {
     assert_eq!(id(chain.constant("Other", "Pair")), Some(5));
     assert_eq!(id(chain.result("Core", "run")), Some(4));
     assert_eq!(id(chain.params("Core", "run")), Some(20));
+    let method = chain.api("Pool", "check").unwrap();
+    assert_eq!((method.params.type_id(), method.result.type_id()), (21, 5));
     assert_eq!(id(chain.custom("Sys.Now")), Some(0));
     assert_eq!(id(chain.named("storage:Sys.Owner")), Some(2));
 }
@@ -55,6 +57,7 @@ fn unknown_names_are_none() {
     assert!(chain.constant("Sys", "Now").is_none());
     assert!(chain.result("Core", "check").is_none());
     assert!(chain.params("Pool", "run").is_none());
+    assert!(chain.api("Pool", "run").is_none());
     assert!(chain.custom("Sys").is_none());
     assert!(chain.named("").is_none());
     let old = Metadata::open(&metadata("small chain 14")).unwrap();
