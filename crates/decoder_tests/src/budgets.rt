@@ -56,7 +56,7 @@ fn growth_takes_only_the_bytes_that_are_added(rt: HostRuntime) {
 
 #[test]
 fn a_refusal_of_the_other_allocator_takes_no_bytes(rt: HostRuntime) {
-    let narrower = Budget::new(rt.alloc(), 600).expect(&rt, "a budget");
+    let narrower = Budget::new(rt.alloc(), 608).expect(&rt, "a budget");
     let budget = Budget::new(narrower.clone().expect(&rt, "a clone"), 200).expect(&rt, "a budget");
     let held = block(&narrower, 500).expect(&rt, "a block");
     assert!(rt; block(&budget, 150).is_err());
