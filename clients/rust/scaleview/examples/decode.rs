@@ -7,9 +7,14 @@
 //! library.
 
 use scaleview::{Error, Limits, OpenOptions, Progress, Registry, Session, ValueReason};
+use std::io::{self, Write};
 use std::num::NonZeroUsize;
 use std::process::ExitCode;
 use std::{env, fs};
+
+const USAGE: &str = "scaleview: usage: decode types FILE [--metadata]
+       or: decode decode FILE ID VALUEFILE [--metadata] [--bits] [--depth D]
+           [--pieces N] [--display]";
 
 #[derive(Default)]
 struct Words {
@@ -42,6 +47,7 @@ fn words() -> Option<Words> {
                     .depth(number(&rest.next()?).filter(|depth| *depth <= 1024)?)
             }
             "--pieces" => words.pieces = Some(number(&rest.next()?)?),
+            option if option.starts_with("--") => return None,
             _ => words.names.push(word),
         }
     }
@@ -113,25 +119,34 @@ fn answer(words: &Words) -> Result<String, (String, u8)> {
                 .collect()
         }
         [call, file, id, value] if call == "decode" => {
-            let id = number(id).ok_or(("scaleview: usage".to_string(), 2))?;
+            let id = number(id).ok_or_else(usage)?;
             let (registry, value) = (open(file)?, read(value)?);
             text(&registry, id, &value, words)
                 .map(|text| text + "\n")
                 .map_err(told)
         }
-        _ => Err(("scaleview: usage".to_string(), 2)),
+        _ => Err(usage()),
     }
 }
 
+fn usage() -> (String, u8) {
+    (USAGE.to_string(), 2)
+}
+
+fn print(text: &str) -> Result<(), (String, u8)> {
+    let mut out = io::stdout();
+    out.write_all(text.as_bytes())
+        .and_then(|()| out.flush())
+        .map_err(|error| (format!("stdout: {error}"), 3))
+}
+
 fn main() -> ExitCode {
-    match words()
-        .ok_or(("scaleview: usage".to_string(), 2))
+    let words = words().ok_or_else(usage);
+    match words
         .and_then(|words| answer(&words))
+        .and_then(|text| print(&text))
     {
-        Ok(text) => {
-            print!("{text}");
-            ExitCode::SUCCESS
-        }
+        Ok(()) => ExitCode::SUCCESS,
         Err((line, status)) => {
             eprintln!("{line}");
             ExitCode::from(status)
