@@ -7,8 +7,6 @@
 #include <stdlib.h>
 #include <string.h>
 
-enum { NAME_ROOM = 1 << 12 };
-
 /* Nodes with their pool and their registry, and a text that is written; `at` is its end. */
 struct node_text {
     scaleview_registry registry;
@@ -23,11 +21,37 @@ struct node_field {
     uint32_t child;
 };
 
-/* Ends the program where a name was not read: names of more than NAME_ROOM bytes have no room here. */
+/* Ends the program where a name was not read. */
 static inline void expect_name(const scaleview_answer *answer) {
     if (answer->code == SCALEVIEW_OK) return;
-    fprintf(stderr, "scaleview: a name was not read: code %u, %llu bytes\n", answer->code, (unsigned long long)answer->length);
+    fprintf(stderr, "scaleview: a name was not read: code %u\n", answer->code);
     exit(5);
+}
+
+/* Memory for a name that has no room yet, which the caller frees. */
+static inline uint8_t *name_room(const scaleview_answer *answer) {
+    uint8_t *name = malloc((size_t)answer->length + 1);
+    if (!name) exit(4);
+    return name;
+}
+
+/* Writes the name of a node's child, or of its arm if `child` is NULL. */
+static inline uint32_t write_name(scaleview_registry registry, const scaleview_node *node, const uint32_t *child,
+                                  uint8_t *out, size_t room, scaleview_answer *answer) {
+    if (!child) return scaleview_arm(registry, node->type, node->arm, out, room, answer);
+    if (node->kind == SCALEVIEW_NODE_ARM)
+        return scaleview_arm_field(registry, node->type, node->arm, *child, out, room, answer);
+    return scaleview_part(registry, node->type, *child, out, room, answer);
+}
+
+/* The same name in memory that the caller frees. */
+static inline uint8_t *name_of(scaleview_registry registry, const scaleview_node *node, const uint32_t *child,
+                               scaleview_answer *answer) {
+    write_name(registry, node, child, NULL, 0, answer);
+    uint8_t *name = name_room(answer);
+    write_name(registry, node, child, name, (size_t)answer->length, answer);
+    expect_name(answer);
+    return name;
 }
 
 static inline void put_bytes(struct node_text *text, const void *bytes, size_t length) {
@@ -82,12 +106,14 @@ static inline void put_hex(struct node_text *text, const uint8_t *bytes, uint64_
 static inline void put_bits(struct node_text *text, const scaleview_node *node) {
     scaleview_type_shape shape, word;
     scaleview_answer answer;
-    uint8_t order[NAME_ROOM];
     scaleview_type(text->registry, node->type, &shape, &answer);
     scaleview_type(text->registry, shape.element, &word, &answer);
-    scaleview_path(text->registry, shape.order, order, sizeof order, &answer);
+    scaleview_path(text->registry, shape.order, NULL, 0, &answer);
+    uint8_t *order = name_room(&answer);
+    scaleview_path(text->registry, shape.order, order, (size_t)answer.length, &answer);
     expect_name(&answer);
     bool is_msb = order[answer.length - 4] == 'M';
+    free(order);
     uint64_t width = 8ull << (word.primitive - SCALEVIEW_U8);
     put_bytes(text, "\"0b", 3);
     for (uint64_t i = 0; i < node->high; i++) {
@@ -102,13 +128,13 @@ static inline void put_bits(struct node_text *text, const scaleview_node *node) 
 static inline uint32_t primitive_of(scaleview_registry registry, uint32_t type) {
     scaleview_type_shape shape;
     scaleview_answer answer;
-    uint8_t name[NAME_ROOM];
     while (scaleview_type(registry, type, &shape, &answer) == SCALEVIEW_OK) {
         if (shape.kind == SCALEVIEW_PRIMITIVE) return shape.primitive;
         if (shape.kind == SCALEVIEW_COMPACT) {
             type = shape.element;
         } else {
-            if (scaleview_part(registry, type, 0, name, sizeof name, &answer) != SCALEVIEW_OK) break;
+            uint32_t code = scaleview_part(registry, type, 0, NULL, 0, &answer);
+            if (code != SCALEVIEW_OK && code != SCALEVIEW_NO_ROOM) break;
             type = answer.from;
         }
     }
@@ -139,13 +165,7 @@ static inline bool read_names(struct node_text *text, const scaleview_node *node
     for (uint32_t i = 0; i < node->children; i++) {
         scaleview_answer answer;
         struct node_field *field = &fields[i];
-        *field = (struct node_field){malloc(NAME_ROOM), 0, i};
-        if (!field->name) exit(4);
-        if (node->kind == SCALEVIEW_NODE_ARM)
-            scaleview_arm_field(text->registry, node->type, node->arm, i, field->name, NAME_ROOM, &answer);
-        else
-            scaleview_part(text->registry, node->type, i, field->name, NAME_ROOM, &answer);
-        expect_name(&answer);
+        *field = (struct node_field){name_of(text->registry, node, &i, &answer), 0, i};
         field->length = (size_t)answer.length;
         are_named = are_named && answer.at == 1;
     }
@@ -188,12 +208,11 @@ static inline void put_fields(struct node_text *text, const scaleview_node *node
 }
 
 static inline void put_arm(struct node_text *text, const scaleview_node *node) {
-    uint8_t name[NAME_ROOM];
     scaleview_answer answer;
-    scaleview_arm(text->registry, node->type, node->arm, name, sizeof name, &answer);
-    expect_name(&answer);
+    uint8_t *name = name_of(text->registry, node, NULL, &answer);
     *text->at++ = '{';
     put_string(text, name, (size_t)answer.length);
+    free(name);
     *text->at++ = ':';
     put_fields(text, node);
     *text->at++ = '}';

@@ -1,5 +1,5 @@
-/* Runs a snippet of a README, which is included, on a registry and a value. `out` has ROOM bytes. FLAGS is what the registry is
- * opened with if the snippet takes an open one.
+/* Runs a snippet of a README, which is included, on a registry and a value. `out` has ROOM bytes.
+ * FLAGS is what the registry is opened with if the snippet takes an open one.
  *
  *   snippet REGISTRY VALUE
  */
@@ -19,7 +19,8 @@ static uint8_t *read_file(const char *path, size_t *length) {
 int main(int count, char **words) {
     if (count != 3) return 2;
     size_t length, value_length, room = ROOM;
-    uint8_t *bytes = read_file(words[1], &length), *value = read_file(words[2], &value_length);
+    uint8_t *bytes = read_file(words[1], &length);
+    uint8_t *value = read_file(words[2], &value_length);
     uint8_t out[ROOM];
 #ifdef FLAGS
     scaleview_registry registry = {NULL};

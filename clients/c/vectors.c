@@ -11,7 +11,7 @@
 #include <stdlib.h>
 #include <string.h>
 
-enum { COLUMNS = 11, TEXT_ROOM = 1 << 20, NODE_ROOM = 1 << 16 };
+enum { COLUMNS = 11, NAME_ROOM = 1 << 12, TEXT_ROOM = 1 << 20, NODE_ROOM = 1 << 16 };
 
 static unsigned rows = 0, ways = 0, wrong = 0, lines = 0, used_lines = 0;
 
