@@ -90,11 +90,20 @@ class error : public std::runtime_error {
     std::uint64_t place_;
 };
 
-/* How deep a value may be, how many bytes it may have, and how much memory the library may use for it; 0 is no budget. */
+/* How deep a value may be, how many bytes it may have, and how much memory the library may use for it.
+ * Without a number the budget of memory is 64 MiB and 64 times the length of the input; 0 is no budget.
+ * The input of a session is as long as `bytes`, and that of an encoding is its nodes and their bytes. */
 struct limits {
     std::uint16_t depth = 64;
     std::uint64_t bytes = std::uint64_t{1} << 24;
-    std::uint64_t memory = 0;
+    std::optional<std::uint64_t> memory = std::nullopt;
+
+    /* The number that the library takes for the budget of an input of this length. */
+    std::uint64_t budget(std::uint64_t length) const {
+        constexpr auto base = std::uint64_t{64} << 20, most = std::numeric_limits<std::uint64_t>::max();
+        if (memory) return *memory;
+        return length > (most - base) / 64 ? most : base + 64 * length;
+    }
 };
 
 /* Whether values of bit sequences are read, where the store and the order are known (SCALEVIEW_BITS), or all rejected. */
@@ -289,7 +298,7 @@ class session {
     session(std::shared_ptr<detail::open_registry> registry, scaleview_registry open, std::uint32_t type, const limits &within)
         : registry_(std::move(registry)) {
         scaleview_answer answer;
-        scaleview_start(open, type, within.depth, within.bytes, within.memory, &handle_, &answer);
+        scaleview_start(open, type, within.depth, within.bytes, within.budget(within.bytes), &handle_, &answer);
         detail::expect_ok(answer, type);
     }
 
@@ -415,8 +424,8 @@ class registry {
     std::string decode_json(std::uint32_t id, bytes_view bytes, const limits &within = {}) const {
         const auto guess = 4 * few(bytes.size()) + 64;
         return detail::written<std::string>(guess, id, [&](std::uint8_t *out, std::size_t room, scaleview_answer *answer) {
-            return scaleview_decode(handle(), id, within.depth, within.bytes, within.memory, bytes.data(), bytes.size(),
-                                    out, room, answer);
+            return scaleview_decode(handle(), id, within.depth, within.bytes, within.budget(bytes.size()), bytes.data(),
+                                    bytes.size(), out, room, answer);
         });
     }
 
@@ -425,9 +434,33 @@ class registry {
         return detail::written_nodes(
             guess / 3 + 8, guess, id,
             [&](node *nodes, std::size_t room, std::uint8_t *pool, std::size_t pool_room, scaleview_answer *answer) {
-                return scaleview_decode_nodes(handle(), id, within.depth, within.bytes, within.memory, bytes.data(),
-                                              bytes.size(), nodes, room, pool, pool_room, answer);
+                return scaleview_decode_nodes(handle(), id, within.depth, within.bytes, within.budget(bytes.size()),
+                                              bytes.data(), bytes.size(), nodes, room, pool, pool_room, answer);
             });
+    }
+
+    /* The name of a variant's arm; none for other nodes. */
+    std::optional<std::string> arm_name(const node &one) const {
+        if (one.kind != SCALEVIEW_NODE_ARM) return std::nullopt;
+        return text_of(one.type, [&](auto out, auto room, auto answer) {
+            return scaleview_arm(handle(), one.type, one.arm, out, room, answer);
+        });
+    }
+
+    /* The position of the child whose field has this name, of a composite or a variant, if there is one. */
+    std::optional<std::size_t> child(const value &from, std::size_t position, std::string_view name) const {
+        const auto &one = from.nodes.at(position);
+        if (one.kind != SCALEVIEW_NODE_FIELDS && one.kind != SCALEVIEW_NODE_ARM) return std::nullopt;
+        auto next = position + 1;
+        for (std::uint32_t i = 0; i < one.children; i++, next = from.after(next)) {
+            const auto [text, answer] = named(one.type, [&](auto out, auto room, auto last) {
+                if (one.kind == SCALEVIEW_NODE_FIELDS)
+                    return scaleview_part(handle(), one.type, i, out, room, last);
+                return scaleview_arm_field(handle(), one.type, one.arm, i, out, room, last);
+            });
+            if (answer.at == 1 && text == name) return next;
+        }
+        return std::nullopt;
     }
 
     /* The bits of a bit sequence that this registry decoded; none for other nodes. */
@@ -453,9 +486,10 @@ class registry {
     /* Encodes nodes, which a program may have made: only the types of bit sequences are read. */
     std::vector<std::uint8_t> encode(std::uint32_t id, const value &from, const limits &within = {}) const {
         const auto guess = 8 * few(from.nodes.size()) + few(from.pool.size());
+        const auto budget = within.budget(sizeof(node) * from.nodes.size() + from.pool.size());
         return detail::written<std::vector<std::uint8_t>>(
             guess, id, [&](std::uint8_t *out, std::size_t room, scaleview_answer *answer) {
-                return scaleview_encode_nodes(handle(), id, within.depth, within.memory, from.nodes.data(),
+                return scaleview_encode_nodes(handle(), id, within.depth, budget, from.nodes.data(),
                                               from.nodes.size(), from.pool.data(), from.pool.size(), out, room, answer);
             });
     }

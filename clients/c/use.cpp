@@ -62,6 +62,7 @@ static void check_fields(const scaleview::registry &registry, std::uint32_t type
     for (std::size_t i = 0; i < children.size(); i++) {
         const auto &field = found.fields.at(i);
         check("a field", field.has_name && value.nodes.at(children.at(i)).type == field.type);
+        check("by its name", registry.child(value, 0, field.name) == children.at(i));
     }
 }
 
@@ -105,6 +106,27 @@ static void check_small() {
     check("its text", session.finish_json() == "\"yes\"");
 }
 
+/* The number of a budget, and a few bytes of millions of nodes, which the budget stops if none is given. */
+static void check_budgets() {
+    constexpr std::uint64_t base = 64 << 20;
+    check("no number", scaleview::limits{}.budget(0) == base && scaleview::limits{}.budget(10) == base + 640);
+    check("a number", scaleview::limits{64, 9, 5}.budget(10) == 5 && scaleview::limits{64, 9, 0}.budget(10) == 0);
+    check("the greatest", scaleview::limits{}.budget(UINT64_MAX) == UINT64_MAX);
+    // A unit, a u8, a composite of 16,383 units and a u8, and a sequence of it.
+    std::vector<std::uint8_t> types{16, 0, 0, 0, 4, 0, 0, 4, 0, 0, 5, 3, 0, 8, 0, 0, 0, 2, 0, 1, 0};
+    for (int i = 0; i < 16383; i++) types.insert(types.end(), {0, 0, 0, 0});
+    types.insert(types.end(), {0, 4, 0, 0, 0, 12, 0, 0, 2, 8, 0});
+    const auto registry = scaleview::registry::open(types);
+    std::vector<std::uint8_t> many(257, 7);
+    many[0] = 1;
+    many[1] = 4;
+    many.push_back(7);
+    check("many nodes", thrown([&] { registry.decode(3, many); }, 0) == "memory");
+    check("many nodes as text", thrown([&] { registry.decode_json(3, many); }, 0) == "memory");
+    const std::vector<std::uint8_t> one{4, 7};
+    check("one", registry.decode(3, one).nodes.size() == 16386);
+}
+
 /* A bit sequence in words of u16, where bits are read, and its bits in order. */
 static void check_bits() {
     static const std::uint8_t types[] = {12, 0, 0, 0, 7, 4, 8, 0, 4, 0, 0, 5, 4, 0, 8, 4, 16, 'M', 's', 'b', '0', 0, 0, 0, 0};
@@ -141,6 +163,13 @@ static void check_opaque(const scaleview::registry &registry) {
     const auto extrinsic = registry.name("extrinsic").value().type;
     const auto json = registry.decode_json(extrinsic, scaleview::opaque(bytes));
     check("an extrinsic", json == R"({"bare":{"call":{"set":{"now":1234}}}})");
+    const auto value = registry.decode(extrinsic, scaleview::opaque(bytes));
+    const auto call = registry.child(value, 0, "call").value();
+    check("its arm", registry.arm_name(value.nodes.at(0)) == "bare");
+    check("its call", registry.arm_name(value.nodes.at(call)) == "set");
+    const auto now = registry.child(value, call, "now").value();
+    check("its number", value.nodes.at(now).low == 1234 && !registry.arm_name(value.nodes.at(now)));
+    check("no such field", !registry.child(value, call, "then") && !registry.child(value, now, "now"));
     check("cut", thrown([&] { scaleview::opaque(shorter); }, 6) == "value: Truncated at 6");
     check("a byte more", thrown([&] { scaleview::opaque(longer); }, 7) == "value: TrailingBytes at 7");
 }
@@ -179,6 +208,7 @@ int main(int count, char **words) {
     check_fields(registry, *type, registry.decode(*type, bytes));
     check_arms(registry);
     check_small();
+    check_budgets();
     check_bits();
     check_chain();
     return failures > 0;
