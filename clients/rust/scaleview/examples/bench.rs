@@ -1,5 +1,6 @@
 //! Compares ways to a value's numbers, in microseconds a value and the best of several runs:
-//! `decode` to a [`Value`], `decode_json` to a text, and a parser that makes a tree of that text.
+//! `decode` to a [`Value`], with its text as well, `decode_json` to the same text, and a parser that
+//! makes a tree of that.
 //!
 //!     cargo run --release --offline --example bench -- METADATA ACCOUNT EVENTS
 
@@ -113,6 +114,9 @@ fn compare(
     let decode = micros(times, || {
         black_box(registry.decode(id, bytes)).ok();
     });
+    let shown = micros(times, || {
+        black_box(registry.decode(id, bytes).map(|value| value.to_string())).ok();
+    });
     let json = micros(times, || {
         black_box(registry.decode_json(id, bytes)).ok();
     });
@@ -125,7 +129,10 @@ fn compare(
             .value(),
         );
     });
-    println!("{name}: decode {decode:.2}, decode_json {json:.2}, parsing that text {parse:.2}");
+    println!(
+        "{name}: decode {decode:.2}, decode and to_string {shown:.2}, decode_json {json:.2}, \
+         parsing that text {parse:.2}"
+    );
     Ok(())
 }
 
@@ -139,5 +146,10 @@ fn main() -> Result<(), Box<dyn Error>> {
         .find("frame_system::AccountInfo")
         .ok_or("no accounts")?;
     compare(&registry, "account", account_info, &fs::read(account)?)?;
-    compare(&registry, "events block", 10, &fs::read(events)?)
+    compare(
+        &registry,
+        "events block",
+        TypeId::new(10),
+        &fs::read(events)?,
+    )
 }

@@ -1,192 +1,183 @@
-//! An explorer's afternoon: opens a chain's metadata, reads a block's events, lists transfers,
-//! writes a block, and sums balances.
+//! An explorer's afternoon, by names alone: opens a chain's metadata, shows a block's extrinsics
+//! and events and an account by its key, writes a call, and sums balances.
 //!
-//!     explorer METADATA EVENTS
+//!     explorer EXAMPLES
+//!
+//! EXAMPLES is the folder `examples` of this repository.
 
-use scaleview::{Item, Registry, TypeId, TypeKind, Value, ValueRef};
+use scaleview::{Item, Metadata, OpenOptions, Storage, ValueRef};
 use std::error::Error;
 use std::fmt::Write;
+use std::path::Path;
 use std::{env, fs};
 
 type Result<T> = std::result::Result<T, Box<dyn Error>>;
 
-/// Returns the type of a block's events, which is the sequence of the type of this path.
-fn sequence_of(registry: &Registry, path: &str) -> Option<TypeId> {
-    let element = registry.find(path)?;
-    let is_wanted =
-        |one: &scaleview::Type| one.kind() == TypeKind::Sequence && one.element() == Some(element);
-    registry.types().find(is_wanted).map(|one| one.id())
+/// Returns a text of `0x` and two digits for each byte.
+fn hex(bytes: &[u8]) -> String {
+    bytes.iter().fold("0x".to_string(), |mut text, byte| {
+        let _ = write!(text, "{byte:02x}");
+        text
+    })
 }
 
-/// Returns the pallet and the name of an event, and the event itself.
-fn event_of(record: ValueRef<'_>) -> Option<(&str, &str, ValueRef<'_>)> {
-    let (pallet, mut inside) = record.get("event")?.variant()?;
-    let event = inside.next()?;
-    Some((pallet, event.variant_name()?, event))
-}
-
-/// Returns an account's bytes, shortened.
-fn account(value: ValueRef<'_>) -> String {
-    let bytes = value
-        .child(0)
-        .and_then(|inside| inside.as_bytes())
-        .unwrap_or_default();
-    let digits = bytes
-        .iter()
-        .take(4)
-        .fold("0x".to_string(), |mut text, byte| {
-            let _ = write!(text, "{byte:02x}");
-            text
-        });
-    format!("{digits}..")
-}
-
-/// Lists the events that move an amount; returns the sum of all transfers.
-fn list_amounts(block: &Value) -> u128 {
-    let mut sum = 0;
-    for (position, record) in block.children().enumerate() {
-        let Some((pallet, name, event)) = event_of(record) else {
-            continue;
-        };
-        let Some(amount) = event.get("amount").and_then(|amount| amount.as_u128()) else {
-            continue;
-        };
-        match (event.get("from"), event.get("to")) {
-            (Some(from), Some(to)) => {
-                println!(
-                    "  {position}: {pallet}.{name}: {amount} from {} to {}",
-                    account(from),
-                    account(to)
-                );
-                sum += amount;
-            }
-            _ => println!("  {position}: {pallet}.{name}: {amount}"),
-        }
+/// Returns the bytes of a file. If its name ends with `.hex`, it is a text of their digits.
+fn read(path: &Path) -> Result<Vec<u8>> {
+    let bytes = fs::read(path)?;
+    if path.extension().is_none_or(|extension| extension != "hex") {
+        return Ok(bytes);
     }
-    sum
+    let text = String::from_utf8(bytes)?;
+    let digits = text.trim().trim_start_matches("0x");
+    let byte = |at| u8::from_str_radix(digits.get(at..at + 2).unwrap_or_default(), 16);
+    let bytes: std::result::Result<Vec<u8>, _> = (0..digits.len()).step_by(2).map(byte).collect();
+    Ok(bytes?)
 }
 
-/// The record of a transfer in the extrinsic at this position.
-fn transfer<'a>(extrinsic: u32, from: &'a [u8; 32], to: &'a [u8; 32], amount: u128) -> Item<'a> {
-    let account = |bytes| Item::fields([Item::bytes(bytes)]);
-    let fields = [
-        ("from", account(from)),
-        ("to", account(to)),
-        ("amount", amount.into()),
-    ];
-    Item::named([
-        ("phase", Item::variant("ApplyExtrinsic", [extrinsic.into()])),
-        (
-            "event",
-            Item::variant("Balances", [Item::named_variant("Transfer", fields)]),
-        ),
-        ("topics", Item::list([])),
-    ])
+/// Returns the pallet and the name of a call or an event, and what is inside.
+fn named(outer: ValueRef<'_>) -> Option<(&str, &str, ValueRef<'_>)> {
+    let pallet = outer.variant_name()?;
+    let inner = outer.at(pallet)?;
+    Some((pallet, inner.variant_name()?, inner))
+}
+
+fn number(value: ValueRef<'_>, path: &str) -> Option<u128> {
+    value.at(path)?.as_u128()
+}
+
+fn show_extrinsic(metadata: &Metadata, bytes: &[u8]) -> Result<()> {
+    let extrinsic = metadata.decode_extrinsic(bytes)?;
+    let call = extrinsic.get("call").ok_or("no call")?;
+    let (pallet, name, call) = named(call).ok_or("no pallet")?;
+    println!("  {pallet}.{name}, {} bytes", bytes.len());
+    let signer = extrinsic.at("signed.address.Id");
+    if let Some(signer) = signer.and_then(|signer| signer.as_bytes()) {
+        println!("    signed by {}", hex(signer));
+    }
+    if let Some(amount) = number(call, "value") {
+        println!("    moves {amount}");
+    }
+    if let Some(bits) = call.at("bitfields").and_then(|bits| bits.as_bits()) {
+        let available = bits.iter().filter(|is| *is).count();
+        println!("    has data of {available} in {} cores", bits.len());
+    }
+    println!("    {}", call.to_web_json()?);
+    Ok(())
+}
+
+/// Lists the events of each extrinsic.
+fn show_events(events: Storage<'_>, bytes: &[u8]) -> Result<()> {
+    let records = events.decode(bytes)?;
+    println!("{} events:", records.children().len());
+    for record in records.children() {
+        let event = record.get("event").ok_or("no event")?;
+        let (pallet, name, event) = named(event).ok_or("no pallet")?;
+        let extrinsic = number(record, "phase.ApplyExtrinsic");
+        let extrinsic = extrinsic.map_or("no extrinsic".into(), |one| format!("extrinsic {one}"));
+        print!("  {extrinsic}: {pallet}.{name}");
+        if let Some(amount) = number(event, "amount") {
+            print!(" {amount}");
+        }
+        if let Some(who) = event.at("who").and_then(|who| who.as_bytes()) {
+            print!(" of {}", hex(who));
+        }
+        println!();
+    }
+    Ok(())
+}
+
+/// Shows what a chain keeps of the account whose key this is.
+fn show_account(accounts: Storage<'_>, key: &[u8], bytes: &[u8]) -> Result<()> {
+    let key = accounts.decode_key(key)?;
+    let id = key.at("key0").and_then(|id| id.as_bytes()).ok_or("no id")?;
+    println!("the account {}:", hex(id));
+    let account = accounts.decode(bytes)?;
+    for path in ["nonce", "data.free", "data.reserved", "data.frozen"] {
+        let number = number(account.root(), path).ok_or("no number")?;
+        println!("  {path} {number}");
+    }
+    Ok(())
 }
 
 /// An account's entry in the chain's storage.
 fn account_info(nonce: u32, free: u128) -> Item<'static> {
+    let data = Item::named([
+        ("free", free.into()),
+        ("reserved", 0.into()),
+        ("frozen", 0.into()),
+        ("flags", Item::fields([(1u128 << 127).into()])),
+    ]);
     Item::named([
         ("nonce", nonce.into()),
         ("consumers", 0.into()),
         ("providers", 1.into()),
         ("sufficients", 0.into()),
-        (
-            "data",
-            Item::named([
-                ("free", free.into()),
-                ("reserved", 0.into()),
-                ("frozen", 0.into()),
-                ("flags", Item::fields([(1u128 << 127).into()])),
-            ]),
-        ),
+        ("data", data),
     ])
 }
 
 /// Sums the free balances of so many accounts, whose bytes it makes first.
-fn sum_balances(registry: &Registry, accounts: u32) -> Result<u128> {
-    let id = registry
-        .find("frame_system::AccountInfo")
-        .ok_or("no type of accounts")?;
+fn sum_balances(accounts: Storage<'_>, count: u32) -> Result<u128> {
     let mut storage = Vec::new();
-    for nonce in 0..accounts {
-        storage
-            .push(registry.encode(id, &account_info(nonce, 10_000_000_000 + u128::from(nonce)))?);
+    for nonce in 0..count {
+        let item = account_info(nonce, 10_000_000_000 + u128::from(nonce));
+        storage.push(accounts.value().encode(&item)?);
     }
     let mut sum = 0;
     for bytes in &storage {
-        let value = registry.decode(id, bytes)?;
-        let free = value
-            .get("data")
-            .and_then(|data| data.get("free"))
-            .and_then(|free| free.as_u128());
-        sum += free.ok_or("no free balance")?;
+        let account = accounts.decode(bytes)?;
+        sum += number(account.root(), "data.free").ok_or("no free balance")?;
     }
     Ok(sum)
 }
 
-/// Writes the call of a transfer, and reads it again.
-fn show_call(registry: &Registry) -> Result<()> {
-    let id = registry
-        .find("polkadot_runtime::RuntimeCall")
-        .ok_or("no type of calls")?;
-    let dest = Item::variant("Id", [Item::fields([Item::bytes(&[7; 32])])]);
+/// Writes the call of a transfer with a remark, and reads it again.
+fn show_call(metadata: &Metadata) -> Result<()> {
+    let dest = Item::variant("Id", [Item::fields([Item::from(&[7; 32])])]);
     let fields = [("dest", dest), ("value", 1_000_000_000_000u128.into())];
-    let call = Item::variant(
-        "Balances",
-        [Item::named_variant("transfer_allow_death", fields)],
-    );
-    let bytes = registry.encode(id, &call)?;
-    let digits = bytes.iter().fold(String::new(), |mut text, byte| {
-        let _ = write!(text, "{byte:02x}");
-        text
-    });
-    println!("a call: 0x{digits}");
-    println!("{}", registry.decode(id, &bytes)?);
+    let transfer = Item::named_variant("transfer_allow_death", fields);
+    let thanks = format!("thanks for {}", 12);
+    let remark = Item::named_variant("remark", [("remark", thanks.into_bytes().into())]);
+    let calls = [
+        Item::variant("Balances", [transfer]),
+        Item::variant("System", [remark]),
+    ];
+    let batch = Item::named_variant("batch_all", [("calls", Item::list(calls))]);
+    let call = Item::variant("Utility", [batch]);
+    let bytes = metadata.call()?.encode(&call)?;
+    println!("a call: {}", hex(&bytes));
+    println!("{:#}", metadata.call()?.decode(&bytes)?);
     Ok(())
 }
 
 fn main() -> Result<()> {
-    let words: Vec<String> = env::args().collect();
-    let [_, metadata, events] = &words[..] else {
-        return Err("usage: explorer METADATA EVENTS".into());
-    };
-    let registry = Registry::open(&fs::read(metadata)?)?;
+    let folder = env::args().nth(1).ok_or("usage: explorer EXAMPLES")?;
+    let read = |name: &str| read(&Path::new(&folder).join(name));
+    let bytes = read("chain/chain.metadata")?;
+    let metadata = OpenOptions::new().bits(true).open_with_names(&bytes)?;
+    let version = metadata.version().unwrap_or_default();
+    let names = metadata.names().len();
     println!(
-        "metadata {}: {} types, {} bytes",
-        registry.version().unwrap_or_default(),
-        registry.len(),
-        registry.end()
+        "metadata {version}: {} types, {names} names",
+        metadata.len()
     );
+    let deposit = metadata.constant("Balances.ExistentialDeposit")?;
+    println!("{}: {}", deposit.name(), deposit.value()?.to_web_json()?);
 
-    let events_type =
-        sequence_of(&registry, "frame_system::EventRecord").ok_or("no type of events")?;
-    let bytes = fs::read(events)?;
-    let block = registry.decode(events_type, &bytes)?;
-    println!(
-        "a block of {} events, type {events_type}",
-        block.children().len()
+    println!("2 extrinsics:");
+    show_extrinsic(&metadata, &read("chain/extrinsic.hex")?)?;
+    show_extrinsic(&metadata, &read("chain/transfer.scale")?)?;
+    show_events(
+        metadata.storage("System.Events")?,
+        &read("chain/events.hex")?,
+    )?;
+
+    let accounts = metadata.storage("System.Account")?;
+    let (key, account) = (
+        read("chain/key.scale")?,
+        read("runtime/account_info.scale")?,
     );
-    println!("transfers: {}", list_amounts(&block));
-
-    let (alice, bob) = ([0xa1; 32], [0xb0; 32]);
-    let item = Item::list([
-        transfer(1, &alice, &bob, 1_500_000_000_000),
-        transfer(2, &bob, &alice, u128::MAX >> 8),
-    ]);
-    let written = registry.encode(events_type, &item)?;
-    let read = registry.decode(events_type, &written)?;
-    println!("a block that was written: {} bytes", written.len());
-    println!("transfers: {}", list_amounts(&read));
-    println!("{read}");
-
-    println!("10000 accounts have {}", sum_balances(&registry, 10_000)?);
-    show_call(&registry)?;
-
-    let again = registry.encode(events_type, &block)?;
-    println!(
-        "the first block is written as it was read: {}",
-        again == bytes
-    );
-    Ok(())
+    show_account(accounts, &key, &account)?;
+    println!("10000 accounts have {}", sum_balances(accounts, 10_000)?);
+    show_call(&metadata)
 }

@@ -30,6 +30,17 @@ pub(crate) fn push<T>(vector: &mut Vec<T>, element: T) -> Result<(), Error> {
     Ok(())
 }
 
+/// Returns two texts in one.
+pub(crate) fn joined(one: &str, other: &str) -> Result<String, Error> {
+    let mut whole = String::new();
+    whole
+        .try_reserve_exact(one.len().saturating_add(other.len()))
+        .map_err(|_| Error::Memory)?;
+    whole.push_str(one);
+    whole.push_str(other);
+    Ok(whole)
+}
+
 /// Appends bytes.
 pub(crate) fn extend(vector: &mut Vec<u8>, bytes: &[u8]) -> Result<(), Error> {
     vector.try_reserve(bytes.len()).map_err(|_| Error::Memory)?;
@@ -38,7 +49,16 @@ pub(crate) fn extend(vector: &mut Vec<u8>, bytes: &[u8]) -> Result<(), Error> {
 }
 
 /// Text that is written without an abort if an allocation fails.
-struct Text(Vec<u8>);
+#[derive(Default)]
+pub(crate) struct Text(Vec<u8>);
+
+impl Text {
+    /// Returns what was written.
+    pub fn into_string(self) -> Result<String, Error> {
+        // Whole texts were written.
+        String::from_utf8(self.0).map_err(|_| Error::Memory)
+    }
+}
 
 impl fmt::Write for Text {
     fn write_str(&mut self, text: &str) -> fmt::Result {
@@ -52,7 +72,7 @@ pub(crate) fn pad(f: &mut fmt::Formatter<'_>, text: fmt::Arguments<'_>) -> fmt::
     if f.width().is_none() && f.precision().is_none() {
         return f.write_fmt(text);
     }
-    let mut whole = Text(Vec::new());
+    let mut whole = Text::default();
     whole.write_fmt(text)?;
     f.pad(str::from_utf8(&whole.0).map_err(|_| fmt::Error)?)
 }

@@ -3,7 +3,8 @@
 use crate::bits::Form;
 use crate::buffer;
 use crate::error::Error;
-use crate::types::{Field, FieldList, Keys, Primitive, TypeId, Variant};
+use crate::type_id::TypeId;
+use crate::types::{Field, FieldList, Keys, Primitive, Variant};
 use scaleview_sys::{
     self as sys, scaleview_answer as Answer, scaleview_registry as Handle,
     scaleview_type_shape as Shape,
@@ -40,7 +41,7 @@ impl Reader {
     pub fn shape(self, id: TypeId) -> Result<Shape, Answer> {
         let (mut shape, mut answer) = (Shape::default(), Answer::default());
         // SAFETY: the registry is open and only read, and both places are this call's.
-        match unsafe { sys::scaleview_type(self.handle, id, &mut shape, &mut answer) } {
+        match unsafe { sys::scaleview_type(self.handle, id.get(), &mut shape, &mut answer) } {
             sys::SCALEVIEW_OK => Ok(shape),
             _ => Err(answer),
         }
@@ -51,9 +52,16 @@ impl Reader {
         let (mut nothing, mut answer) = ([0], Answer::default());
         // SAFETY: as above. There is room for no byte of a name.
         match unsafe {
-            sys::scaleview_part(self.handle, id, 0, nothing.as_mut_ptr(), 0, &mut answer)
+            sys::scaleview_part(
+                self.handle,
+                id.get(),
+                0,
+                nothing.as_mut_ptr(),
+                0,
+                &mut answer,
+            )
         } {
-            sys::SCALEVIEW_OK | sys::SCALEVIEW_NO_ROOM => Some(answer.from),
+            sys::SCALEVIEW_OK | sys::SCALEVIEW_NO_ROOM => Some(TypeId::new(answer.from)),
             _ => None,
         }
     }
@@ -61,7 +69,7 @@ impl Reader {
     fn path(self, id: TypeId) -> Result<String, Error> {
         let call = |out, room, answer: &mut Answer| {
             // SAFETY: as above; the place is `buffer::text`'s.
-            unsafe { sys::scaleview_path(self.handle, id, out, room, answer) }
+            unsafe { sys::scaleview_path(self.handle, id.get(), out, room, answer) }
         };
         // SAFETY: the header promises what `text` wants.
         unsafe { buffer::text(NAME, call) }.map_err(Error::of_type(id))
@@ -77,7 +85,7 @@ impl Reader {
             let (name, answer) = named(|out, room, answer| call(position, out, room, answer))?;
             fields.push(Field {
                 name: (answer.at == 1).then_some(name),
-                type_id: answer.from,
+                type_id: TypeId::new(answer.from),
             });
         }
         let keys = keys_of(&fields)?;
@@ -87,12 +95,14 @@ impl Reader {
     fn variant(self, id: TypeId, arm: u32) -> Result<Variant, Error> {
         let (name, answer) = named(|out, room, answer| {
             // SAFETY: as above; the place is `named`'s.
-            unsafe { sys::scaleview_arm(self.handle, id, arm, out, room, answer) }
+            unsafe { sys::scaleview_arm(self.handle, id.get(), arm, out, room, answer) }
         })?;
         let count = u32::try_from(answer.at).map_err(|_| Error::Memory)?;
         let list = self.fields(count, |field, out, room, answer| {
             // SAFETY: as above.
-            unsafe { sys::scaleview_arm_field(self.handle, id, arm, field, out, room, answer) }
+            unsafe {
+                sys::scaleview_arm_field(self.handle, id.get(), arm, field, out, room, answer)
+            }
         })?;
         Ok(Variant {
             name,
@@ -106,11 +116,11 @@ impl Reader {
         if shape.kind != sys::SCALEVIEW_BIT_SEQUENCE {
             return Ok(None);
         }
-        let store = self.shape(shape.element).unwrap_or_default();
+        let store = self.shape(TypeId::new(shape.element)).unwrap_or_default();
         if store.kind != sys::SCALEVIEW_PRIMITIVE {
             return Ok(None);
         }
-        match self.path(shape.order) {
+        match self.path(TypeId::new(shape.order)) {
             Ok(order) => Ok(Form::of(Primitive::of(store.primitive), &order)),
             Err(Error::UnknownType { .. }) => Ok(None),
             Err(error) => Err(error),
@@ -126,7 +136,7 @@ impl Reader {
             if is_variant { 0 } else { shape.parts },
             |part, out, room, answer| {
                 // SAFETY: as above.
-                unsafe { sys::scaleview_part(self.handle, id, part, out, room, answer) }
+                unsafe { sys::scaleview_part(self.handle, id.get(), part, out, room, answer) }
             },
         )?;
         let arms = if is_variant { shape.parts } else { 0 };

@@ -1,6 +1,8 @@
 //! Why there is no answer, and where.
 
-use crate::buffer::pad;
+use crate::buffer::{self, pad};
+use crate::json::Quoted;
+use crate::type_id::TypeId;
 use scaleview_sys::{self as sys, scaleview_answer as Answer};
 use std::fmt;
 
@@ -105,7 +107,7 @@ reasons! {
 /// # Ok(())
 /// # }
 /// ```
-#[derive(Clone, Copy, Debug, PartialEq, Eq, Hash)]
+#[derive(Clone, Debug, PartialEq, Eq, Hash)]
 #[non_exhaustive]
 pub enum Error {
     /// The registry's bytes are rejected.
@@ -118,9 +120,9 @@ pub enum Error {
     /// The type `from` of the registry refers to the type `to`, which doesn't exist.
     UnknownReference {
         /// The type that refers.
-        from: u32,
+        from: TypeId,
         /// The type that doesn't exist.
-        to: u32,
+        to: TypeId,
     },
     /// What follows the registry in metadata is rejected, which
     /// [`Metadata::open`](crate::Metadata::open) reads.
@@ -133,16 +135,24 @@ pub enum Error {
     /// What follows the registry in metadata refers to the type `to`, which doesn't exist.
     UnknownMetadataReference {
         /// The type that doesn't exist.
-        to: u32,
+        to: TypeId,
         /// Where the reference is, from the first byte of the metadata.
         place: u64,
     },
+    /// The metadata has no such name.
+    UnknownName {
+        /// The name as a whole, such as `storage:System.Account`.
+        name: String,
+    },
     /// The metadata has no bytes for a name: see [`Named::has_bytes`](crate::Named::has_bytes).
-    NoBytes,
+    NoBytes {
+        /// The name as a whole.
+        name: String,
+    },
     /// The registry has no type at this position.
     UnknownType {
         /// The position.
-        id: u32,
+        id: TypeId,
     },
     /// The depth is above 1024, or the limit of bytes above 2^40.
     LimitOutOfRange,
@@ -217,14 +227,13 @@ impl Error {
         match answer.code {
             sys::SCALEVIEW_MEMORY => Error::Memory,
             sys::SCALEVIEW_REGISTRY_UNKNOWN_REFERENCE => Error::UnknownReference {
-                from: answer.from,
-                to: answer.at as u32,
+                from: TypeId::new(answer.from),
+                to: TypeId::new(answer.at as u32),
             },
             sys::SCALEVIEW_METADATA_UNKNOWN_REFERENCE => Error::UnknownMetadataReference {
-                to: answer.from,
+                to: TypeId::new(answer.from),
                 place: answer.at,
             },
-            sys::SCALEVIEW_NO_BYTES => Error::NoBytes,
             sys::SCALEVIEW_LIMIT_OUT_OF_RANGE => Error::LimitOutOfRange,
             code => Error::Library { code },
         }
@@ -239,8 +248,24 @@ impl Error {
         }
     }
 
+    /// The error of a name that the metadata doesn't have, of a word and what follows it.
+    pub(crate) fn unknown_name(word: &str, path: &str) -> Error {
+        match buffer::joined(word, path) {
+            Ok(name) => Error::UnknownName { name },
+            Err(error) => error,
+        }
+    }
+
+    /// The error of a name for which the metadata has no bytes.
+    pub(crate) fn no_bytes(name: &str) -> Error {
+        match buffer::joined(name, "") {
+            Ok(name) => Error::NoBytes { name },
+            Err(error) => error,
+        }
+    }
+
     /// The error of a call that names a type.
-    pub(crate) fn of_type(id: u32) -> impl Fn(Answer) -> Error {
+    pub(crate) fn of_type(id: TypeId) -> impl Fn(Answer) -> Error {
         move |answer| match answer.code {
             sys::SCALEVIEW_UNKNOWN_TYPE => Error::UnknownType { id },
             _ => Error::of(answer),
@@ -264,7 +289,10 @@ impl fmt::Display for Error {
                 f,
                 format_args!("registry: UnknownReference to type {to} at {place}"),
             ),
-            Error::NoBytes => f.pad("type: NoBytes"),
+            Error::UnknownName { name } => {
+                pad(f, format_args!("type: UnknownName {}", Quoted(name)))
+            }
+            Error::NoBytes { name } => pad(f, format_args!("type: NoBytes {}", Quoted(name))),
             Error::UnknownType { id } => pad(f, format_args!("type: UnknownType {id}")),
             Error::LimitOutOfRange => f.pad("limits: LimitOutOfRange"),
             Error::Value { reason, place } => pad(f, format_args!("value: {reason} at {place}")),

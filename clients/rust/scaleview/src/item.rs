@@ -3,10 +3,13 @@
 use crate::bits::Bits;
 #[cfg(doc)]
 use crate::registry::Registry;
-use crate::value::{Value, ValueRef};
+use crate::registry_ref::RegistryRef;
+use crate::value::AnyValue;
+use crate::view::ValueRef;
+use std::borrow::Cow;
 
-/// A value that a program builds, to be encoded by [`Registry::encode`]. Texts and bytes are
-/// borrowed.
+/// A value that a program builds, to be encoded by [`Registry::encode`]. Texts, bytes and names are
+/// borrowed or owned, and bits are borrowed.
 ///
 /// It has no types: the registry says which they are when it is encoded. So one kind of number is
 /// enough for integers of all widths, compact ones too, and fields and variants are found by their
@@ -46,9 +49,9 @@ pub enum Item<'a> {
     /// A character.
     Char(char),
     /// A text.
-    Text(&'a str),
+    Text(Cow<'a, str>),
     /// A sequence or an array of u8.
-    Bytes(&'a [u8]),
+    Bytes(Cow<'a, [u8]>),
     /// An integer of any width, or a compact one.
     Unsigned(u128),
     /// An integer of any width, or a compact one.
@@ -58,11 +61,11 @@ pub enum Item<'a> {
     /// The fields of a composite or the members of a tuple, in their order.
     Fields(Vec<Item<'a>>),
     /// The fields of a composite by their names, in any order.
-    Named(Vec<(&'a str, Item<'a>)>),
+    Named(Vec<(Cow<'a, str>, Item<'a>)>),
     /// A variant by its name, with its fields in their order.
-    Variant(&'a str, Vec<Item<'a>>),
+    Variant(Cow<'a, str>, Vec<Item<'a>>),
     /// A variant by its name, with its fields by their names.
-    NamedVariant(&'a str, Vec<(&'a str, Item<'a>)>),
+    NamedVariant(Cow<'a, str>, Vec<(Cow<'a, str>, Item<'a>)>),
     /// The elements of an array, or of a sequence of another type than u8.
     List(Vec<Item<'a>>),
     /// A sequence of so many elements that take no bytes.
@@ -78,21 +81,26 @@ impl<'a> Item<'a> {
     }
 
     /// Returns the fields of a composite by their names, in any order.
-    pub fn named(fields: impl IntoIterator<Item = (&'a str, Item<'a>)>) -> Item<'a> {
-        Item::Named(fields.into_iter().collect())
+    pub fn named<N: Into<Cow<'a, str>>>(
+        fields: impl IntoIterator<Item = (N, Item<'a>)>,
+    ) -> Item<'a> {
+        Item::Named(by_name(fields))
     }
 
     /// Returns a variant by its name, with its fields in their order.
-    pub fn variant(name: &'a str, fields: impl IntoIterator<Item = Item<'a>>) -> Item<'a> {
-        Item::Variant(name, fields.into_iter().collect())
+    pub fn variant(
+        name: impl Into<Cow<'a, str>>,
+        fields: impl IntoIterator<Item = Item<'a>>,
+    ) -> Item<'a> {
+        Item::Variant(name.into(), fields.into_iter().collect())
     }
 
     /// Returns a variant by its name, with its fields by their names.
-    pub fn named_variant(
-        name: &'a str,
-        fields: impl IntoIterator<Item = (&'a str, Item<'a>)>,
+    pub fn named_variant<N: Into<Cow<'a, str>>>(
+        name: impl Into<Cow<'a, str>>,
+        fields: impl IntoIterator<Item = (N, Item<'a>)>,
     ) -> Item<'a> {
-        Item::NamedVariant(name, fields.into_iter().collect())
+        Item::NamedVariant(name.into(), by_name(fields))
     }
 
     /// Returns the elements of an array, or of a sequence of another type than u8.
@@ -101,8 +109,8 @@ impl<'a> Item<'a> {
     }
 
     /// Returns a sequence or an array of u8.
-    pub fn bytes(bytes: &'a [u8]) -> Item<'a> {
-        Item::Bytes(bytes)
+    pub fn bytes(bytes: impl Into<Cow<'a, [u8]>>) -> Item<'a> {
+        Item::Bytes(bytes.into())
     }
 
     /// Returns a bit sequence of a slice of `bool`, or of the bits of a decoded value.
@@ -127,6 +135,14 @@ impl<'a> Item<'a> {
     pub fn bits(bits: impl Into<Bits<'a>>) -> Item<'a> {
         Item::Bits(bits.into())
     }
+}
+
+/// Collects fields with their names.
+fn by_name<'a, N: Into<Cow<'a, str>>>(
+    fields: impl IntoIterator<Item = (N, Item<'a>)>,
+) -> Vec<(Cow<'a, str>, Item<'a>)> {
+    let fields = fields.into_iter();
+    fields.map(|(name, item)| (name.into(), item)).collect()
 }
 
 macro_rules! from_number {
@@ -154,21 +170,22 @@ impl From<char> for Item<'_> {
     }
 }
 
-impl<'a> From<&'a str> for Item<'a> {
-    fn from(text: &'a str) -> Self {
-        Item::Text(text)
-    }
+macro_rules! from_cow {
+    ($kind:ident: $($text:ty)+) => {
+        $(impl<'a> From<$text> for Item<'a> {
+            fn from(text: $text) -> Self {
+                Item::$kind(text.into())
+            }
+        })+
+    };
 }
 
-impl<'a> From<&'a [u8]> for Item<'a> {
-    fn from(bytes: &'a [u8]) -> Self {
-        Item::Bytes(bytes)
-    }
-}
+from_cow! { Text: &'a str &'a String String Cow<'a, str> }
+from_cow! { Bytes: &'a [u8] &'a Vec<u8> Vec<u8> Cow<'a, [u8]> }
 
 impl<'a, const N: usize> From<&'a [u8; N]> for Item<'a> {
     fn from(bytes: &'a [u8; N]) -> Self {
-        Item::Bytes(bytes)
+        Item::Bytes(bytes.as_slice().into())
     }
 }
 
@@ -215,8 +232,8 @@ impl<'a> From<ValueRef<'a>> for Source<'a> {
     }
 }
 
-impl<'a, 'r: 'a> From<&'a Value<'r>> for Source<'a> {
-    fn from(value: &'a Value<'r>) -> Self {
+impl<'a, R: RegistryRef> From<&'a AnyValue<R>> for Source<'a> {
+    fn from(value: &'a AnyValue<R>) -> Self {
         Source::Value(value.root())
     }
 }

@@ -6,12 +6,14 @@ use crate::describe::Details;
 use crate::error::{Error, NodeReason};
 use crate::item::Item;
 use crate::registry::Registry;
-use crate::types::{Field, Primitive, TypeId};
+use crate::type_id::TypeId;
+use crate::types::{Field, Primitive};
 use scaleview_sys::{self as sys, scaleview_node as Node, scaleview_type_shape as Shape};
+use std::borrow::Cow;
 use std::ptr;
 
 /// An item and its name.
-type Named<'a> = (&'a str, Item<'a>);
+type Named<'a> = (Cow<'a, str>, Item<'a>);
 
 /// Nodes that are made of items, and the items that are not taken yet, the next one last.
 struct Lowering<'a> {
@@ -68,7 +70,7 @@ impl<'a> Lowering<'a> {
             &mut self.nodes,
             Node {
                 kind,
-                r#type: id,
+                r#type: id.get(),
                 low,
                 high,
                 ..Node::default()
@@ -105,7 +107,7 @@ impl<'a> Lowering<'a> {
             &mut self.nodes,
             Node {
                 kind,
-                r#type: id,
+                r#type: id.get(),
                 children,
                 arm,
                 ..Node::default()
@@ -166,7 +168,7 @@ impl<'a> Lowering<'a> {
         items: &'a [Named<'a>],
     ) -> Result<(), Error> {
         let names = fields.iter().map(Field::name);
-        if names.eq(items.iter().map(|(name, _)| Some(*name))) {
+        if names.eq(items.iter().map(|(name, _)| Some(name.as_ref()))) {
             for (field, (_, item)) in fields.iter().zip(items).rev() {
                 buffer::push(&mut self.rest, (field.type_id, item))?;
             }
@@ -240,10 +242,10 @@ impl<'a> Lowering<'a> {
                 if items.len() as u64 != u64::from(shape.length) {
                     return Err(self.rejected(NodeReason::OutOfRange));
                 }
-                self.leave_elements(shape.element, items)
+                self.leave_elements(TypeId::new(shape.element), items)
             }
             // An array of u8 that takes no bytes has none.
-            Item::Bytes(bytes) if is_array && self.is_u8(shape.element)? => {
+            Item::Bytes(bytes) if is_array && self.is_u8(TypeId::new(shape.element))? => {
                 if bytes.is_empty() {
                     Ok(())
                 } else {
@@ -285,14 +287,14 @@ impl<'a> Lowering<'a> {
             return Err(self.rejected(NodeReason::WrongKind));
         }
         // An array of such elements takes no bytes itself, so this is a sequence.
-        if is_empty(self.shape(shape.element)?) {
+        if is_empty(self.shape(TypeId::new(shape.element))?) {
             let kept = self.rest.len();
-            self.leave_elements(shape.element, items)?;
+            self.leave_elements(TypeId::new(shape.element), items)?;
             self.check_left(kept)?;
             return self.put(sys::SCALEVIEW_NODE_COUNT, id, items.len() as u64, 0);
         }
         self.put_parent(sys::SCALEVIEW_NODE_LIST, id, 0, items.len())?;
-        self.leave_elements(shape.element, items)
+        self.leave_elements(TypeId::new(shape.element), items)
     }
 
     /// Puts the node of a variant, and leaves its fields to be taken.
@@ -304,7 +306,7 @@ impl<'a> Lowering<'a> {
         let found = (0..)
             .zip(&details.variants)
             .find(|(_, variant)| variant.name() == name);
-        let (arm, variant) = found.ok_or(self.rejected(NodeReason::NoSuchVariant))?;
+        let (arm, variant) = found.ok_or_else(|| self.rejected(NodeReason::NoSuchVariant))?;
         match item {
             Item::NamedVariant(_, items) => self.leave_named(variant.fields(), item, items)?,
             Item::Variant(_, items) => self.leave(variant.fields(), items)?,
@@ -364,7 +366,7 @@ impl<'a> Found<'a> {
         let mut unknown = None;
         let wanted = sorted(fields.iter().map(Field::name))?;
         let mut wanted = wanted.iter().peekable();
-        for (name, position) in sorted(named.iter().map(|(name, _)| Some(*name)))? {
+        for (name, position) in sorted(named.iter().map(|(name, _)| Some(name.as_ref())))? {
             while wanted.next_if(|field| field.0 < name).is_some() {}
             let slot = wanted
                 .next_if(|field| field.0 == name)

@@ -1,21 +1,28 @@
 //! Metadata with the names that it gives to types.
 
-use crate::buffer;
-use crate::describe;
 use crate::error::Error;
+use crate::index::{Entry, Index};
+use crate::limits::Limits;
+use crate::named::{Constant, Method, Named, Storage};
 use crate::options::OpenOptions;
 use crate::registry::Registry;
-use crate::types::{Type, TypeId};
-use crate::value::Value;
-use scaleview_sys::{self as sys, scaleview_answer as Answer};
+use crate::session::OwnedSession;
+use crate::type_id::TypeId;
+use crate::value::{AnyValue, OwnedValue, Value};
 use std::iter::FusedIterator;
 use std::ops::Deref;
+use std::slice;
+use std::sync::Arc;
 
 /// A chain's metadata, version 14 or 15, with the names that it gives to types.
 ///
 /// It dereferences to its [`Registry`], which decodes and encodes the values. After the registry's
 /// own types come synthetic ones: those of extrinsics, of storage keys and of what the methods of
 /// runtime APIs take, and the few small types that these need.
+///
+/// A name is looked up by its hash, whatever the number of names, and without an allocation. A
+/// pallet, an entry and the like stand in it as they do in the metadata, and a name is compared
+/// as a whole, never cut at a dot.
 ///
 /// # Examples
 ///
@@ -26,29 +33,28 @@ use std::ops::Deref;
 /// # std::env::set_current_dir(concat!(env!("CARGO_MANIFEST_DIR"), "/../../.."))?;
 /// let metadata = Metadata::open(&fs::read("examples/chain/chain.metadata")?)?;
 ///
-/// let account = metadata.storage("System", "Account").ok_or("no such entry")?;
 /// let bytes = fs::read("examples/runtime/account_info.scale")?;
-/// let value = metadata.decode(account.type_id(), &bytes)?;
-/// assert_eq!(value.get("nonce").and_then(|nonce| nonce.as_u128()), Some(712_822));
+/// let account = metadata.storage("System.Account")?.decode(&bytes)?;
+/// assert_eq!(account.at("nonce").and_then(|nonce| nonce.as_u128()), Some(712_822));
 ///
-/// let deposit = metadata.constant("Balances", "ExistentialDeposit").ok_or("no such constant")?;
+/// let deposit = metadata.constant("Balances.ExistentialDeposit")?;
 /// assert_eq!(deposit.value()?.as_u128(), Some(10_000_000_000));
 ///
-/// let extrinsic = metadata.extrinsic().ok_or("unknown extrinsics")?;
-/// let bytes = fs::read("examples/chain/transfer.scale")?;
-/// let value = metadata.decode_opaque(extrinsic.type_id(), &bytes)?;
-/// assert_eq!(value.variant_name(), Some("signed"));
+/// let extrinsic = metadata.decode_extrinsic(&fs::read("examples/chain/transfer.scale")?)?;
+/// assert_eq!(extrinsic.variant_name(), Some("signed"));
 /// # Ok(())
 /// # }
 /// ```
 #[derive(Debug)]
 pub struct Metadata {
     registry: Registry,
+    index: Index,
 }
 
 impl Metadata {
-    pub(crate) fn of(registry: Registry) -> Metadata {
-        Metadata { registry }
+    pub(crate) fn of(registry: Registry) -> Result<Metadata, Error> {
+        let index = Index::of(&registry)?;
+        Ok(Metadata { registry, index })
     }
 
     /// Opens the metadata that all the bytes hold. They are not kept.
@@ -85,85 +91,171 @@ impl Metadata {
         self.registry
     }
 
-    /// Returns the type of a storage entry's value. It has bytes if absent values have a default.
-    pub fn storage(&self, pallet: &str, entry: &str) -> Option<Named<'_>> {
-        self.find_name(format!("storage:{pallet}.{entry}"))
+    /// Returns the storage entry of a pallet and an entry, such as `System.Account`.
+    ///
+    /// # Errors
+    /// `UnknownName`, `Memory`.
+    pub fn storage(&self, name: &str) -> Result<Storage<'_>, Error> {
+        let value = self.of_word("storage:", name)?;
+        Ok(Storage::of(value, &self.index))
     }
 
-    /// Returns the type of a storage entry's keys, a composite: the hashes of the pallet's and the
-    /// entry's name, and for each hasher what it writes. Hashes are not compared.
-    pub fn key(&self, pallet: &str, entry: &str) -> Option<Named<'_>> {
-        self.find_name(format!("key:{pallet}.{entry}"))
-    }
-
-    /// Returns the type of a constant, which has bytes.
-    pub fn constant(&self, pallet: &str, name: &str) -> Option<Named<'_>> {
-        self.find_name(format!("constant:{pallet}.{name}"))
+    /// Returns the constant of a pallet and a name, such as `Balances.ExistentialDeposit`.
+    ///
+    /// # Errors
+    /// `UnknownName`, `Memory`.
+    pub fn constant(&self, name: &str) -> Result<Constant<'_>, Error> {
+        self.of_word("constant:", name).map(Constant::of)
     }
 
     /// Returns the type of a pallet's calls.
-    pub fn calls(&self, pallet: &str) -> Option<Named<'_>> {
-        self.find_name(format!("calls:{pallet}"))
+    ///
+    /// # Errors
+    /// `UnknownName`, `Memory`.
+    pub fn calls(&self, pallet: &str) -> Result<Named<'_>, Error> {
+        self.of_word("calls:", pallet)
     }
 
     /// Returns the type of a pallet's events.
-    pub fn events(&self, pallet: &str) -> Option<Named<'_>> {
-        self.find_name(format!("events:{pallet}"))
+    ///
+    /// # Errors
+    /// `UnknownName`, `Memory`.
+    pub fn events(&self, pallet: &str) -> Result<Named<'_>, Error> {
+        self.of_word("events:", pallet)
     }
 
     /// Returns the type of a pallet's errors.
-    pub fn errors(&self, pallet: &str) -> Option<Named<'_>> {
-        self.find_name(format!("errors:{pallet}"))
+    ///
+    /// # Errors
+    /// `UnknownName`, `Memory`.
+    pub fn errors(&self, pallet: &str) -> Result<Named<'_>, Error> {
+        self.of_word("errors:", pallet)
     }
 
     /// Returns the type of extrinsics. In a block they have their length in front, which
-    /// [`decode_opaque`](Registry::decode_opaque) reads.
-    pub fn extrinsic(&self) -> Option<Named<'_>> {
+    /// [`decode_extrinsic`](Metadata::decode_extrinsic) reads.
+    ///
+    /// # Errors
+    /// `UnknownName`, `Memory`.
+    pub fn extrinsic(&self) -> Result<Named<'_>, Error> {
         self.named("extrinsic")
     }
 
+    /// Decodes an extrinsic of a block, with its length in front, as
+    /// [`decode_opaque`](Registry::decode_opaque) does.
+    ///
+    /// # Errors
+    /// As [`decode_opaque`](Registry::decode_opaque), and `UnknownName` if the metadata doesn't
+    /// say what extrinsics are.
+    pub fn decode_extrinsic(&self, bytes: &[u8]) -> Result<Value<'_>, Error> {
+        self.registry.decode_opaque(self.extrinsic()?, bytes)
+    }
+
+    /// Decodes a value as [`Registry::decode_owned`] does. It shares the metadata, so it may be
+    /// kept anywhere.
+    ///
+    /// # Errors
+    /// As [`Registry::decode`].
+    ///
+    /// # Examples
+    ///
+    /// ```
+    /// # use std::{error::Error, fs};
+    /// use scaleview::{Metadata, OwnedValue};
+    /// # use std::sync::Arc;
+    /// type Account = Result<OwnedValue<Metadata>, scaleview::Error>;
+    /// fn account(chain: &Arc<Metadata>, bytes: &[u8]) -> Account {
+    ///     chain.decode_owned(chain.storage("System.Account")?, bytes)
+    /// }
+    /// # fn main() -> Result<(), Box<dyn Error>> {
+    /// # std::env::set_current_dir(concat!(env!("CARGO_MANIFEST_DIR"), "/../../.."))?;
+    /// let chain = Arc::new(Metadata::open(&fs::read("examples/chain/chain.metadata")?)?);
+    /// let account = account(&chain, &fs::read("examples/runtime/account_info.scale")?)?;
+    /// assert_eq!(account.at("nonce").and_then(|nonce| nonce.as_u128()), Some(712_822));
+    /// # Ok(())
+    /// # }
+    /// ```
+    pub fn decode_owned(
+        self: &Arc<Self>,
+        id: impl Into<TypeId>,
+        bytes: &[u8],
+    ) -> Result<OwnedValue<Metadata>, Error> {
+        self.decode_owned_within(id, bytes, Limits::new())
+    }
+
+    /// Decodes a value as [`decode_owned`](Metadata::decode_owned) does, within these limits.
+    ///
+    /// # Errors
+    /// As [`Registry::decode_within`].
+    pub fn decode_owned_within(
+        self: &Arc<Self>,
+        id: impl Into<TypeId>,
+        bytes: &[u8],
+        limits: Limits,
+    ) -> Result<OwnedValue<Metadata>, Error> {
+        AnyValue::decoded(Arc::clone(self), id.into(), bytes, limits)
+    }
+
+    /// Starts a value as [`Registry::start_owned`] does. The session shares the metadata.
+    ///
+    /// # Errors
+    /// As [`Registry::start`].
+    pub fn start_owned(
+        self: &Arc<Self>,
+        id: impl Into<TypeId>,
+        limits: Limits,
+    ) -> Result<OwnedSession<Metadata>, Error> {
+        OwnedSession::over(Arc::clone(self), id.into(), limits)
+    }
+
     /// Returns the type of the calls of all pallets.
-    pub fn call(&self) -> Option<Named<'_>> {
+    ///
+    /// # Errors
+    /// `UnknownName`, `Memory`.
+    pub fn call(&self) -> Result<Named<'_>, Error> {
         self.named("call")
     }
 
     /// Returns the type of the events of all pallets. Metadata of version 14 doesn't name it.
-    pub fn event(&self) -> Option<Named<'_>> {
+    ///
+    /// # Errors
+    /// `UnknownName`, `Memory`.
+    pub fn event(&self) -> Result<Named<'_>, Error> {
         self.named("event")
     }
 
     /// Returns the type of the errors of all pallets. Metadata of version 14 doesn't name it.
-    pub fn error(&self) -> Option<Named<'_>> {
+    ///
+    /// # Errors
+    /// `UnknownName`, `Memory`.
+    pub fn error(&self) -> Result<Named<'_>, Error> {
         self.named("error")
     }
 
-    /// Returns what a method of a runtime API takes and returns. Metadata of version 14 names no
-    /// methods.
-    pub fn api(&self, api: &str, method: &str) -> Option<Method<'_>> {
-        Some(Method {
-            params: self.params(api, method)?,
-            result: self.result(api, method)?,
+    /// Returns what a method of a runtime API takes and returns, such as `Core.version`. Metadata
+    /// of version 14 names no methods.
+    ///
+    /// # Errors
+    /// `UnknownName`, `Memory`.
+    pub fn api(&self, method: &str) -> Result<Method<'_>, Error> {
+        Ok(Method {
+            params: self.of_word("params:", method)?,
+            result: self.of_word("result:", method)?,
         })
     }
 
-    /// Returns the type of what a method of a runtime API returns. Metadata of version 14 names no
-    /// methods.
-    pub fn result(&self, api: &str, method: &str) -> Option<Named<'_>> {
-        self.find_name(format!("result:{api}.{method}"))
-    }
-
-    /// Returns the type of what a method of a runtime API takes: a composite with a field for each
-    /// input.
-    pub fn params(&self, api: &str, method: &str) -> Option<Named<'_>> {
-        self.find_name(format!("params:{api}.{method}"))
-    }
-
     /// Returns the type of a custom value, which has bytes. Metadata of version 14 has none.
-    pub fn custom(&self, name: &str) -> Option<Named<'_>> {
-        self.find_name(format!("custom:{name}"))
+    ///
+    /// # Errors
+    /// `UnknownName`, `Memory`.
+    pub fn custom(&self, name: &str) -> Result<Named<'_>, Error> {
+        self.of_word("custom:", name)
     }
 
     /// Returns the type of a name as a whole, such as `storage:System.Account`.
+    ///
+    /// # Errors
+    /// `UnknownName`, `Memory`.
     ///
     /// # Examples
     ///
@@ -172,13 +264,18 @@ impl Metadata {
     /// # fn main() -> Result<(), Error> {
     /// # let bytes = b"meta\x0f\x04\0\0\0\x05\x05\0\0\x04\0\0\0\0\0\0\0\0\0\0\0";
     /// let metadata = Metadata::open(bytes)?;
-    /// assert_eq!(metadata.named("extrinsic").map(|named| named.type_id()), Some(1));
-    /// assert!(metadata.named("calls:Balances").is_none());
+    /// assert_eq!(u32::from(metadata.named("extrinsic")?.type_id()), 1);
+    ///
+    /// let error = metadata.named("calls:Balances").unwrap_err();
+    /// assert_eq!(error.to_string(), "type: UnknownName \"calls:Balances\"");
     /// # Ok(())
     /// # }
     /// ```
-    pub fn named(&self, name: &str) -> Option<Named<'_>> {
-        self.find_name(name.to_string())
+    pub fn named(&self, name: &str) -> Result<Named<'_>, Error> {
+        let found = self.index.find_whole(name);
+        found
+            .map(|entry| Named::of(&self.registry, entry))
+            .ok_or_else(|| Error::unknown_name("", name))
     }
 
     /// Returns all names, in the order of the metadata.
@@ -192,7 +289,6 @@ impl Metadata {
     /// let metadata = Metadata::open(bytes)?;
     /// let mut lines = String::new();
     /// for named in metadata.names() {
-    ///     let named = named?;
     ///     lines += &format!("{} {}, ", named.name(), named.type_id());
     /// }
     /// assert_eq!(lines, "extrinsic 1, call 0, event 0, error 0, ");
@@ -201,22 +297,60 @@ impl Metadata {
     /// ```
     pub fn names(&self) -> Names<'_> {
         Names {
-            metadata: self,
-            next: 0,
+            registry: &self.registry,
+            entries: self.index.entries.iter(),
         }
     }
 
-    fn find_name(&self, name: String) -> Option<Named<'_>> {
-        let mut answer = Answer::default();
-        let code = self.reading(|handle| {
-            // SAFETY: the registry is open; the slice and the place are this call's.
-            unsafe { sys::scaleview_name(handle, name.as_ptr(), name.len(), &mut answer) }
-        });
-        if code == sys::SCALEVIEW_OK {
-            Named::of(self, name, answer)
-        } else {
-            None
-        }
+    /// Returns all storage entries, in the order of the metadata.
+    ///
+    /// # Examples
+    ///
+    /// ```
+    /// # use std::{error::Error, fs};
+    /// # use scaleview::Metadata;
+    /// # fn main() -> Result<(), Box<dyn Error>> {
+    /// # std::env::set_current_dir(concat!(env!("CARGO_MANIFEST_DIR"), "/../../.."))?;
+    /// let metadata = Metadata::open(&fs::read("examples/chain/chain.metadata")?)?;
+    /// let mut entries = metadata.storage_entries();
+    /// assert_eq!(entries.next().map(|entry| entry.name()), Some("System.Account"));
+    /// # Ok(())
+    /// # }
+    /// ```
+    pub fn storage_entries(&self) -> impl Iterator<Item = Storage<'_>> {
+        let values = self.with_word("storage:");
+        values.map(|value| Storage::of(value, &self.index))
+    }
+
+    /// Returns all constants, in the order of the metadata.
+    ///
+    /// # Examples
+    ///
+    /// ```
+    /// # use std::{error::Error, fs};
+    /// # use scaleview::Metadata;
+    /// # fn main() -> Result<(), Box<dyn Error>> {
+    /// # std::env::set_current_dir(concat!(env!("CARGO_MANIFEST_DIR"), "/../../.."))?;
+    /// let metadata = Metadata::open(&fs::read("examples/chain/chain.metadata")?)?;
+    /// let mut constants = metadata.constants();
+    /// assert_eq!(constants.next().map(|one| one.name()), Some("System.BlockHashCount"));
+    /// # Ok(())
+    /// # }
+    /// ```
+    pub fn constants(&self) -> impl Iterator<Item = Constant<'_>> {
+        self.with_word("constant:").map(Constant::of)
+    }
+
+    fn with_word<'m>(&'m self, word: &'m str) -> impl Iterator<Item = Named<'m>> {
+        self.names()
+            .filter(move |named| named.name().starts_with(word))
+    }
+
+    fn of_word(&self, word: &str, path: &str) -> Result<Named<'_>, Error> {
+        let found = self.index.find(word, path);
+        found
+            .map(|entry| Named::of(&self.registry, entry))
+            .ok_or_else(|| Error::unknown_name(word, path))
     }
 }
 
@@ -228,109 +362,42 @@ impl Deref for Metadata {
     }
 }
 
-/// A method of a runtime API.
-#[derive(Clone, Debug)]
-pub struct Method<'m> {
-    /// The type of what it takes: a composite with a field for each input.
-    pub params: Named<'m>,
-    /// The type of what it returns.
-    pub result: Named<'m>,
-}
+impl<'m> IntoIterator for &'m Metadata {
+    type Item = Named<'m>;
+    type IntoIter = Names<'m>;
 
-/// A type by the name that metadata gives to it.
-#[derive(Clone, Debug)]
-pub struct Named<'m> {
-    name: String,
-    ty: Type<'m>,
-    has_bytes: bool,
-}
-
-impl<'m> Named<'m> {
-    fn of(registry: &'m Registry, name: String, answer: Answer) -> Option<Named<'m>> {
-        Some(Named {
-            name,
-            ty: registry.get(answer.from)?,
-            has_bytes: answer.at == 1,
-        })
-    }
-
-    /// Returns the name as a whole, such as `storage:System.Account`.
-    pub fn name(&self) -> &str {
-        &self.name
-    }
-
-    /// Returns the position of the type.
-    pub fn type_id(&self) -> TypeId {
-        self.ty.id
-    }
-
-    /// Returns the type.
-    pub fn ty(&self) -> Type<'m> {
-        self.ty
-    }
-
-    /// Returns whether the metadata has bytes for the name: those of a constant, of a custom value,
-    /// or of a storage entry's default.
-    pub fn has_bytes(&self) -> bool {
-        self.has_bytes
-    }
-
-    /// Returns the bytes that the metadata has for the name. They need not be a value.
-    ///
-    /// # Errors
-    /// `NoBytes`, `Memory`.
-    pub fn bytes(&self) -> Result<Vec<u8>, Error> {
-        let call = |out, room, answer: &mut Answer| {
-            let (name, length) = (self.name.as_ptr(), self.name.len());
-            // SAFETY: the registry is open; the slice and the places are this call's.
-            self.ty.registry.reading(|handle| unsafe {
-                sys::scaleview_name_bytes(handle, name, length, out, room, answer)
-            })
-        };
-        // SAFETY: the header promises what `bytes` wants.
-        unsafe { buffer::bytes(64, call) }.map_err(Error::of)
-    }
-
-    /// Decodes the bytes that the metadata has for the name, within the default limits.
-    ///
-    /// # Errors
-    /// `NoBytes`, `Value` with the reason and the place in these bytes, `Memory`.
-    pub fn value(&self) -> Result<Value<'m>, Error> {
-        self.ty.registry.decode(self.ty.id, &self.bytes()?)
+    fn into_iter(self) -> Names<'m> {
+        self.names()
     }
 }
 
-/// The names of metadata. Each is read when it is asked for, which an allocation may fail.
+/// The names of metadata, in its order, by [`Metadata::names`].
 #[derive(Clone, Debug)]
 pub struct Names<'m> {
-    metadata: &'m Metadata,
-    next: u32,
+    registry: &'m Registry,
+    entries: slice::Iter<'m, Entry>,
 }
 
 impl<'m> Iterator for Names<'m> {
-    type Item = Result<Named<'m>, Error>;
+    type Item = Named<'m>;
 
-    fn next(&mut self) -> Option<Self::Item> {
-        let (registry, index) = (&self.metadata.registry, self.next);
-        let mut is_end = false;
-        let call = |out, room, answer: &mut Answer| {
-            // SAFETY: the registry is open; the places are `named`'s.
-            let code = registry.reading(|handle| unsafe {
-                sys::scaleview_name_at(handle, index, out, room, answer)
-            });
-            is_end = code == sys::SCALEVIEW_UNKNOWN_NAME;
-            code
-        };
-        let read = describe::named(call);
-        if is_end {
-            return None;
-        }
-        self.next += 1;
-        match read {
-            Ok((name, answer)) => Named::of(registry, name, answer).map(Ok),
-            Err(error) => Some(Err(error)),
-        }
+    fn next(&mut self) -> Option<Named<'m>> {
+        let entry = self.entries.next()?;
+        Some(Named::of(self.registry, entry))
+    }
+
+    fn size_hint(&self) -> (usize, Option<usize>) {
+        self.entries.size_hint()
     }
 }
+
+impl DoubleEndedIterator for Names<'_> {
+    fn next_back(&mut self) -> Option<Self::Item> {
+        let entry = self.entries.next_back()?;
+        Some(Named::of(self.registry, entry))
+    }
+}
+
+impl ExactSizeIterator for Names<'_> {}
 
 impl FusedIterator for Names<'_> {}

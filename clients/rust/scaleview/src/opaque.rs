@@ -3,7 +3,7 @@
 use crate::error::Error;
 use crate::limits::Limits;
 use crate::registry::Registry;
-use crate::types::TypeId;
+use crate::type_id::TypeId;
 use crate::value::Value;
 use scaleview_sys::{self as sys, scaleview_answer as Answer};
 
@@ -16,7 +16,7 @@ impl Registry {
         bytes: &[u8],
         call: impl FnOnce(&[u8]) -> Result<T, Error>,
     ) -> Result<T, Error> {
-        if id >= self.len() {
+        if id.get() >= self.len() {
             return Err(Error::UnknownType { id });
         }
         let mut answer = Answer::default();
@@ -59,7 +59,7 @@ impl Registry {
     /// # Ok(())
     /// # }
     /// ```
-    pub fn decode_opaque(&self, id: TypeId, bytes: &[u8]) -> Result<Value<'_>, Error> {
+    pub fn decode_opaque(&self, id: impl Into<TypeId>, bytes: &[u8]) -> Result<Value<'_>, Error> {
         self.decode_opaque_within(id, bytes, Limits::new())
     }
 
@@ -70,10 +70,11 @@ impl Registry {
     /// As [`decode_opaque`](Registry::decode_opaque), and `LimitOutOfRange`.
     pub fn decode_opaque_within(
         &self,
-        id: TypeId,
+        id: impl Into<TypeId>,
         bytes: &[u8],
         limits: Limits,
     ) -> Result<Value<'_>, Error> {
+        let id = id.into();
         self.after_length(id, bytes, |value| self.decode_within(id, value, limits))
     }
 
@@ -81,7 +82,7 @@ impl Registry {
     ///
     /// # Errors
     /// As [`decode_opaque`](Registry::decode_opaque).
-    pub fn decode_opaque_json(&self, id: TypeId, bytes: &[u8]) -> Result<String, Error> {
+    pub fn decode_opaque_json(&self, id: impl Into<TypeId>, bytes: &[u8]) -> Result<String, Error> {
         self.decode_opaque_json_within(id, bytes, Limits::new())
     }
 
@@ -92,10 +93,11 @@ impl Registry {
     /// As [`decode_opaque_within`](Registry::decode_opaque_within).
     pub fn decode_opaque_json_within(
         &self,
-        id: TypeId,
+        id: impl Into<TypeId>,
         bytes: &[u8],
         limits: Limits,
     ) -> Result<String, Error> {
+        let id = id.into();
         self.after_length(id, bytes, |value| {
             self.decode_json_within(id, value, limits)
         })

@@ -127,12 +127,12 @@ impl OpenOptions {
     /// # fn main() -> Result<(), Error> {
     /// # let bytes = b"meta\x0f\x04\0\0\0\x05\x05\0\0\x04\0\0\0\0\0\0\0\0\0\0\0";
     /// let metadata = OpenOptions::new().bits(true).open_with_names(bytes)?;
-    /// assert_eq!(metadata.call().map(|call| call.type_id()), Some(0));
+    /// assert_eq!(u32::from(metadata.call()?.type_id()), 0);
     /// # Ok(())
     /// # }
     /// ```
     pub fn open_with_names(self, bytes: &[u8]) -> Result<Metadata, Error> {
         let flags = self.flags() | sys::SCALEVIEW_METADATA | sys::SCALEVIEW_NAMES;
-        Registry::opened(bytes, flags).map(Metadata::of)
+        Registry::opened(bytes, flags).and_then(Metadata::of)
     }
 }

@@ -8,8 +8,9 @@ use crate::limits::Limits;
 use crate::lower::lower;
 use crate::options::OpenOptions;
 use crate::session::{OwnedSession, Progress, Session};
-use crate::types::{Primitive, Type, TypeId, Types};
-use crate::value::Value;
+use crate::type_id::TypeId;
+use crate::types::{Primitive, Type, Types};
+use crate::value::{AnyValue, OwnedValue, Value};
 use scaleview_sys::{
     self as sys, scaleview_answer as Answer, scaleview_node as Node, scaleview_registry as Handle,
 };
@@ -200,7 +201,8 @@ impl Registry {
     }
 
     /// Returns the type at this position.
-    pub fn get(&self, id: TypeId) -> Option<Type<'_>> {
+    pub fn get(&self, id: impl Into<TypeId>) -> Option<Type<'_>> {
+        let id = id.into();
         // SAFETY: the registry is open.
         let shape = self
             .reading(|handle| unsafe { Reader::new(handle) }.shape(id))
@@ -228,7 +230,8 @@ impl Registry {
 
     /// Returns the first type with this path, from the position `from` on. A path need not be one
     /// type's alone.
-    pub fn find_from(&self, from: TypeId, path: &str) -> Option<TypeId> {
+    pub fn find_from(&self, from: impl Into<TypeId>, path: &str) -> Option<TypeId> {
+        let from = from.into().get();
         let mut answer = Answer::default();
         let code = self.reading(|handle| {
             // SAFETY: the registry is open; the slice and the place are this
@@ -236,7 +239,7 @@ impl Registry {
             unsafe { sys::scaleview_find(handle, from, path.as_ptr(), path.len(), &mut answer) }
         });
         if code == sys::SCALEVIEW_OK {
-            TypeId::try_from(answer.at).ok()
+            u32::try_from(answer.at).ok().map(TypeId::new)
         } else {
             None
         }
@@ -247,11 +250,12 @@ impl Registry {
     ///
     /// # Errors
     /// `UnknownType`, `Memory`.
-    pub fn type_line(&self, id: TypeId) -> Result<String, Error> {
+    pub fn type_line(&self, id: impl Into<TypeId>) -> Result<String, Error> {
+        let id = id.into();
         let call = |out, room, answer: &mut Answer| {
             // SAFETY: the registry is open; the places are this call's.
             self.reading(|handle| unsafe {
-                sys::scaleview_type_line(handle, id, out, room, answer)
+                sys::scaleview_type_line(handle, id.get(), out, room, answer)
             })
         };
         // SAFETY: the header promises what `text` wants.
@@ -262,7 +266,7 @@ impl Registry {
     pub(crate) fn details(&self, id: TypeId) -> Result<&Details, Error> {
         let slot = self
             .slots
-            .get(id as usize)
+            .get(id.index())
             .ok_or(Error::UnknownType { id })?;
         if slot.details.get().is_none() {
             // SAFETY: the registry is open.
@@ -278,11 +282,26 @@ impl Registry {
             .ok_or(Error::Memory)
     }
 
+    /// Reads what the registry says of the types of composites, variants and bit sequences among
+    /// these nodes, so that no later walk has to.
+    // It is no part of a generic function, which another crate would compile without `details`.
+    pub(crate) fn read_names(&self, nodes: &[Node]) -> Result<(), Error> {
+        for node in nodes {
+            if matches!(
+                node.kind,
+                sys::SCALEVIEW_NODE_FIELDS | sys::SCALEVIEW_NODE_ARM | sys::SCALEVIEW_NODE_BITS
+            ) {
+                self.details(TypeId::new(node.r#type))?;
+            }
+        }
+        Ok(())
+    }
+
     /// Returns the next type inside one that wraps one value, the primitive, or neither.
     fn inside(&self, reader: Reader, id: TypeId) -> Result<TypeId, Option<Primitive>> {
         let known = self
             .slots
-            .get(id as usize)
+            .get(id.index())
             .map_or(0, |slot| slot.target.load(Ordering::Relaxed));
         if known != 0 {
             return Err(Primitive::of(u32::from(known) - 1));
@@ -290,7 +309,7 @@ impl Registry {
         let shape = reader.shape(id).map_err(|_| None)?;
         match shape.kind {
             sys::SCALEVIEW_PRIMITIVE => Err(Primitive::of(shape.primitive)),
-            sys::SCALEVIEW_COMPACT => Ok(shape.element),
+            sys::SCALEVIEW_COMPACT => Ok(TypeId::new(shape.element)),
             sys::SCALEVIEW_COMPOSITE | sys::SCALEVIEW_TUPLE if shape.parts == 1 => {
                 reader.first_part(id).ok_or(None)
             }
@@ -324,7 +343,7 @@ impl Registry {
     }
 
     fn learn(&self, id: TypeId, target: Primitive) {
-        if let Some(slot) = self.slots.get(id as usize) {
+        if let Some(slot) = self.slots.get(id.index()) {
             slot.target.store(target as u8 + 1, Ordering::Relaxed);
         }
     }
@@ -351,7 +370,7 @@ impl Registry {
     /// # Ok(())
     /// # }
     /// ```
-    pub fn decode(&self, id: TypeId, bytes: &[u8]) -> Result<Value<'_>, Error> {
+    pub fn decode(&self, id: impl Into<TypeId>, bytes: &[u8]) -> Result<Value<'_>, Error> {
         self.decode_within(id, bytes, Limits::new())
     }
 
@@ -361,10 +380,60 @@ impl Registry {
     /// As [`decode`](Registry::decode), and `LimitOutOfRange`.
     pub fn decode_within(
         &self,
-        id: TypeId,
+        id: impl Into<TypeId>,
         bytes: &[u8],
         limits: Limits,
     ) -> Result<Value<'_>, Error> {
+        AnyValue::decoded(self, id.into(), bytes, limits)
+    }
+
+    /// Decodes a value as [`decode`](Registry::decode) does. It shares the registry, so it may be
+    /// kept anywhere.
+    ///
+    /// # Errors
+    /// As [`decode`](Registry::decode).
+    ///
+    /// # Examples
+    ///
+    /// ```
+    /// # use scaleview::{Error, Registry};
+    /// # use std::sync::Arc;
+    /// # fn main() -> Result<(), Error> {
+    /// let registry = Arc::new(Registry::open(b"\x04\x00\x00\x00\x05\x05\x00")?);
+    /// let value = registry.decode_owned(0, b"\x2a\x00\x00\x00")?;
+    /// drop(registry);
+    /// assert_eq!(value.as_u128(), Some(42));
+    /// # Ok(())
+    /// # }
+    /// ```
+    pub fn decode_owned(
+        self: &Arc<Self>,
+        id: impl Into<TypeId>,
+        bytes: &[u8],
+    ) -> Result<OwnedValue, Error> {
+        self.decode_owned_within(id, bytes, Limits::new())
+    }
+
+    /// Decodes a value as [`decode_owned`](Registry::decode_owned) does, within these limits.
+    ///
+    /// # Errors
+    /// As [`decode_within`](Registry::decode_within).
+    pub fn decode_owned_within(
+        self: &Arc<Self>,
+        id: impl Into<TypeId>,
+        bytes: &[u8],
+        limits: Limits,
+    ) -> Result<OwnedValue, Error> {
+        AnyValue::decoded(Arc::clone(self), id.into(), bytes, limits)
+    }
+
+    /// Returns the nodes of a value, and their bytes.
+    pub(crate) fn decode_nodes(
+        &self,
+        id: TypeId,
+        bytes: &[u8],
+        limits: Limits,
+    ) -> Result<(Vec<Node>, Vec<u8>), Error> {
         if bytes.len() >= LARGE {
             return self.decode_large(id, bytes, limits);
         }
@@ -376,7 +445,7 @@ impl Registry {
             self.reading(|handle| unsafe {
                 sys::scaleview_decode_nodes(
                     handle,
-                    id,
+                    id.get(),
                     depth,
                     limit,
                     memory,
@@ -395,13 +464,17 @@ impl Registry {
         let most = usize::try_from(limit).map_or(bytes.len(), |limit| bytes.len().min(limit));
         let guess = (most / 8 * 5 + 8, most);
         // SAFETY: the header promises what `nodes` wants.
-        let (nodes, pool) = unsafe { buffer::nodes(guess, call) }.map_err(Error::of_type(id))?;
-        Value::new(self, nodes, pool)
+        unsafe { buffer::nodes(guess, call) }.map_err(Error::of_type(id))
     }
 
     /// Decodes a value in a session, which keeps it while its nodes are counted. So it is decoded
     /// once, whatever its number of nodes.
-    fn decode_large(&self, id: TypeId, bytes: &[u8], limits: Limits) -> Result<Value<'_>, Error> {
+    fn decode_large(
+        &self,
+        id: TypeId,
+        bytes: &[u8],
+        limits: Limits,
+    ) -> Result<(Vec<Node>, Vec<u8>), Error> {
         // The default budget of a session is that of its limit.
         let limits = limits.memory(limits.budget(bytes.len() as u64));
         let mut session = self.start(id, limits)?;
@@ -410,7 +483,7 @@ impl Registry {
                 reason: ValueReason::TrailingBytes,
                 place: used as u64,
             }),
-            _ => session.finish(),
+            _ => session.finish_nodes(),
         }
     }
 
@@ -434,7 +507,7 @@ impl Registry {
     /// # Ok(())
     /// # }
     /// ```
-    pub fn decode_json(&self, id: TypeId, bytes: &[u8]) -> Result<String, Error> {
+    pub fn decode_json(&self, id: impl Into<TypeId>, bytes: &[u8]) -> Result<String, Error> {
         self.decode_json_within(id, bytes, Limits::new())
     }
 
@@ -444,10 +517,11 @@ impl Registry {
     /// As [`decode`](Registry::decode), and `LimitOutOfRange`.
     pub fn decode_json_within(
         &self,
-        id: TypeId,
+        id: impl Into<TypeId>,
         bytes: &[u8],
         limits: Limits,
     ) -> Result<String, Error> {
+        let id = id.into();
         let (depth, limit) = (limits.depth, limits.bytes);
         let memory = limits.budget(bytes.len() as u64);
         let call = |out, room, answer: &mut Answer| {
@@ -456,7 +530,7 @@ impl Registry {
             self.reading(|handle| unsafe {
                 sys::scaleview_decode(
                     handle,
-                    id,
+                    id.get(),
                     depth,
                     limit,
                     memory,
@@ -491,7 +565,11 @@ impl Registry {
     /// # Ok(())
     /// # }
     /// ```
-    pub fn encode<'a>(&self, id: TypeId, source: impl Into<Source<'a>>) -> Result<Vec<u8>, Error> {
+    pub fn encode<'a>(
+        &self,
+        id: impl Into<TypeId>,
+        source: impl Into<Source<'a>>,
+    ) -> Result<Vec<u8>, Error> {
         self.encode_within(id, source, Limits::new())
     }
 
@@ -501,10 +579,11 @@ impl Registry {
     /// As [`encode`](Registry::encode), and `LimitOutOfRange`.
     pub fn encode_within<'a>(
         &self,
-        id: TypeId,
+        id: impl Into<TypeId>,
         source: impl Into<Source<'a>>,
         limits: Limits,
     ) -> Result<Vec<u8>, Error> {
+        let id = id.into();
         match source.into() {
             Source::Value(value) => match value.as_bits() {
                 Some(bits) => self.encode_item(id, &Item::Bits(bits), limits),
@@ -535,7 +614,7 @@ impl Registry {
             self.reading(|handle| unsafe {
                 sys::scaleview_encode_nodes(
                     handle,
-                    id,
+                    id.get(),
                     depth,
                     memory,
                     nodes.as_ptr(),
@@ -572,8 +651,8 @@ impl Registry {
     /// # Ok(())
     /// # }
     /// ```
-    pub fn start(&self, id: TypeId, limits: Limits) -> Result<Session<'_>, Error> {
-        Session::over(self, id, limits)
+    pub fn start(&self, id: impl Into<TypeId>, limits: Limits) -> Result<Session<'_>, Error> {
+        Session::over(self, id.into(), limits)
     }
 
     /// Starts a value as [`start`](Registry::start) does, in a session that shares the registry and
@@ -583,10 +662,10 @@ impl Registry {
     /// As [`start`](Registry::start).
     pub fn start_owned(
         self: &Arc<Self>,
-        id: TypeId,
+        id: impl Into<TypeId>,
         limits: Limits,
     ) -> Result<OwnedSession, Error> {
-        OwnedSession::over(Arc::clone(self), id, limits)
+        OwnedSession::over(Arc::clone(self), id.into(), limits)
     }
 }
 

@@ -4,11 +4,13 @@ use crate::buffer;
 use crate::error::Error;
 use crate::limits::Limits;
 use crate::registry::{Registry, json_guess};
-use crate::types::TypeId;
-use crate::value::Value;
-use scaleview_sys::{self as sys, scaleview_answer as Answer, scaleview_session as Handle};
+use crate::registry_ref::RegistryRef;
+use crate::type_id::TypeId;
+use crate::value::AnyValue;
+use scaleview_sys::{
+    self as sys, scaleview_answer as Answer, scaleview_node as Node, scaleview_session as Handle,
+};
 use std::fmt;
-use std::ops::Deref;
 use std::sync::{Arc, Mutex, PoisonError};
 
 /// How far a value is.
@@ -39,24 +41,9 @@ pub enum Progress {
 /// The library's handle of a session. Every call is given its place, those that only report too.
 struct Raw(Handle);
 
-// SAFETY: "A handle may be used on any thread", says the header. "A session is used by one call at a
-// time": its handle lies in a lock. It is started and freed in `Registry::counting`.
+// SAFETY: "A handle may be used on any thread", says the header. "A session is used by one call at
+// a time": its handle lies in a lock. It is started and freed in `Registry::counting`.
 unsafe impl Send for Raw {}
-
-mod sealed {
-    /// No other crate may implement [`RegistryRef`](super::RegistryRef): a session's registry must
-    /// stay open, at one place.
-    pub trait Sealed {}
-}
-
-/// A reference that keeps a registry open: `&Registry` or `Arc<Registry>`. No other type can
-/// implement it.
-pub trait RegistryRef: sealed::Sealed + Deref<Target = Registry> {}
-
-impl sealed::Sealed for &Registry {}
-impl RegistryRef for &Registry {}
-impl sealed::Sealed for Arc<Registry> {}
-impl RegistryRef for Arc<Registry> {}
 
 /// A value in progress, as [`Session`] and [`OwnedSession`] are. It is freed when it is dropped.
 ///
@@ -81,7 +68,7 @@ impl RegistryRef for Arc<Registry> {}
 /// ```
 pub struct AnySession<R: RegistryRef> {
     raw: Mutex<Raw>,
-    registry: R,
+    owner: R,
 }
 
 /// A value in progress, over a registry that it borrows.
@@ -102,8 +89,8 @@ pub struct AnySession<R: RegistryRef> {
 /// ```
 pub type Session<'r> = AnySession<&'r Registry>;
 
-/// A value in progress, over a registry that it shares: a struct may have both, and a thread may
-/// take it along.
+/// A value in progress, over a registry or metadata that it shares: a struct may have both, and a
+/// thread may take it along.
 ///
 /// # Examples
 ///
@@ -123,10 +110,10 @@ pub type Session<'r> = AnySession<&'r Registry>;
 /// # Ok(())
 /// # }
 /// ```
-pub type OwnedSession = AnySession<Arc<Registry>>;
+pub type OwnedSession<R = Registry> = AnySession<Arc<R>>;
 
 impl<R: RegistryRef> AnySession<R> {
-    pub(crate) fn over(registry: R, id: TypeId, limits: Limits) -> Result<AnySession<R>, Error> {
+    pub(crate) fn over(owner: R, id: TypeId, limits: Limits) -> Result<AnySession<R>, Error> {
         let Limits { depth, bytes, .. } = limits;
         // The length of all pieces isn't known yet, and the limit bounds it.
         let memory = limits.budget(bytes);
@@ -136,17 +123,25 @@ impl<R: RegistryRef> AnySession<R> {
             },
             Answer::default(),
         );
-        let code = registry.counting(|open| {
-            // SAFETY: the registry is open, and no other session is started or freed; the places are
-            // this call's, and the handle is null.
+        let code = owner.get().counting(|open| {
+            // SAFETY: the registry is open, and no other session is started or freed; the places
+            // are this call's, and the handle is null.
             unsafe {
-                sys::scaleview_start(open, id, depth, bytes, memory, &mut handle, &mut answer)
+                sys::scaleview_start(
+                    open,
+                    id.get(),
+                    depth,
+                    bytes,
+                    memory,
+                    &mut handle,
+                    &mut answer,
+                )
             }
         });
         match code {
             sys::SCALEVIEW_OK => Ok(AnySession {
                 raw: Mutex::new(Raw(handle)),
-                registry,
+                owner,
             }),
             _ => Err(Error::of_type(id)(answer)),
         }
@@ -160,7 +155,7 @@ impl<R: RegistryRef> AnySession<R> {
 
     /// Returns the registry.
     pub fn registry(&self) -> &Registry {
-        &self.registry
+        self.owner.get()
     }
 
     /// Takes the next piece, which may be empty. A session that has answered keeps its answer.
@@ -261,7 +256,8 @@ impl<R: RegistryRef> AnySession<R> {
         unsafe { buffer::text(guess, call) }.map_err(Error::of)
     }
 
-    fn value<'v>(&self, registry: &'v Registry) -> Result<Value<'v>, Error> {
+    /// Ends the value, and returns its nodes and their bytes.
+    pub(crate) fn finish_nodes(&self) -> Result<(Vec<Node>, Vec<u8>), Error> {
         let call = |nodes, node_room, pool, pool_room, answer: &mut Answer| {
             // SAFETY: as in `feed`.
             self.changing(|session| unsafe {
@@ -270,14 +266,11 @@ impl<R: RegistryRef> AnySession<R> {
         };
         // A session keeps its value, so it may be asked how large it is.
         // SAFETY: the header promises what `nodes` wants.
-        let (nodes, pool) = unsafe { buffer::nodes((0, 0), call) }.map_err(Error::of)?;
-        Value::new(registry, nodes, pool)
+        unsafe { buffer::nodes((0, 0), call) }.map_err(Error::of)
     }
-}
 
-impl<'r> Session<'r> {
     /// Ends the value, and returns it. It is kept until the session is dropped, so it may be asked
-    /// for again.
+    /// for again. The value of an [`OwnedSession`] is an [`OwnedValue`](crate::OwnedValue).
     ///
     /// # Errors
     /// As [`finish_json`](AnySession::finish_json).
@@ -294,33 +287,9 @@ impl<'r> Session<'r> {
     /// # Ok(())
     /// # }
     /// ```
-    pub fn finish(&mut self) -> Result<Value<'r>, Error> {
-        self.value(self.registry)
-    }
-}
-
-impl OwnedSession {
-    /// Ends the value, and returns it. It is kept until the session is dropped, so it may be asked
-    /// for again.
-    ///
-    /// # Errors
-    /// As [`finish_json`](AnySession::finish_json).
-    ///
-    /// # Examples
-    ///
-    /// ```
-    /// # use scaleview::{Error, Limits, Progress, Registry};
-    /// # use std::sync::Arc;
-    /// # fn main() -> Result<(), Error> {
-    /// let registry = Arc::new(Registry::open(b"\x04\x00\x00\x00\x05\x05\x00")?);
-    /// let mut session = registry.start_owned(0, Limits::new())?;
-    /// assert_eq!(session.feed(b"\x2a\x00\x00\x00")?, Progress::Done { used: 4 });
-    /// assert_eq!(session.finish()?.as_u128(), Some(42));
-    /// # Ok(())
-    /// # }
-    /// ```
-    pub fn finish(&mut self) -> Result<Value<'_>, Error> {
-        self.value(&self.registry)
+    pub fn finish(&mut self) -> Result<AnyValue<R>, Error> {
+        let (nodes, pool) = self.finish_nodes()?;
+        AnyValue::new(self.owner.clone(), nodes, pool)
     }
 }
 
@@ -335,7 +304,8 @@ impl<R: RegistryRef> fmt::Debug for AnySession<R> {
 impl<R: RegistryRef> Drop for AnySession<R> {
     fn drop(&mut self) {
         // SAFETY: as in `feed`; no other session is started or freed, and no call follows.
-        self.registry
+        self.owner
+            .get()
             .counting(|_| self.changing(|session| unsafe { sys::scaleview_free(session) }));
     }
 }

@@ -2,13 +2,59 @@
 
 use crate::error::Error;
 use crate::registry::Registry;
+use crate::type_id::TypeId;
 use scaleview_sys::{self as sys, scaleview_type_shape as Shape};
 use std::fmt;
 use std::iter::FusedIterator;
 use std::ops::Range;
+use std::str::FromStr;
 
-/// The position of a type in its registry.
-pub type TypeId = u32;
+/// The error of reading a position, a kind, a class or a primitive from a text.
+///
+/// # Examples
+///
+/// ```
+/// # use scaleview::{Primitive, TypeKind};
+/// assert_eq!("u16".parse(), Ok(Primitive::U16));
+/// let error = "u16".parse::<TypeKind>().unwrap_err();
+/// assert_eq!(error.to_string(), "the text names no position, kind, class or primitive");
+/// ```
+#[derive(Clone, Copy, Debug, PartialEq, Eq, Hash)]
+pub struct ParseTypeError(pub(crate) ());
+
+impl fmt::Display for ParseTypeError {
+    fn fmt(&self, f: &mut fmt::Formatter<'_>) -> fmt::Result {
+        f.pad("the text names no position, kind, class or primitive")
+    }
+}
+
+impl std::error::Error for ParseTypeError {}
+
+/// Makes an enum displayed and read as the command prints it.
+macro_rules! words {
+    ($name:ident: $($word:literal $one:ident)+) => {
+        /// Displays as the command prints it.
+        impl fmt::Display for $name {
+            fn fmt(&self, f: &mut fmt::Formatter<'_>) -> fmt::Result {
+                f.pad(match self {
+                    $($name::$one => $word,)+
+                })
+            }
+        }
+
+        /// Reads what the command prints.
+        impl FromStr for $name {
+            type Err = ParseTypeError;
+
+            fn from_str(text: &str) -> Result<$name, ParseTypeError> {
+                match text {
+                    $($word => Ok($name::$one),)+
+                    _ => Err(ParseTypeError(())),
+                }
+            }
+        }
+    };
+}
 
 /// What a type is, in the order of scale-info's `TypeDef`.
 #[derive(Clone, Copy, Debug, PartialEq, Eq, Hash)]
@@ -34,20 +80,15 @@ pub enum TypeKind {
     BitSequence,
 }
 
-/// Displays as the command prints it.
-impl fmt::Display for TypeKind {
-    fn fmt(&self, f: &mut fmt::Formatter<'_>) -> fmt::Result {
-        f.pad(match self {
-            TypeKind::Composite => "composite",
-            TypeKind::Variant => "variant",
-            TypeKind::Sequence => "sequence",
-            TypeKind::Array => "array",
-            TypeKind::Tuple => "tuple",
-            TypeKind::Primitive => "primitive",
-            TypeKind::Compact => "compact",
-            TypeKind::BitSequence => "bitsequence",
-        })
-    }
+words! { TypeKind:
+    "composite" Composite
+    "variant" Variant
+    "sequence" Sequence
+    "array" Array
+    "tuple" Tuple
+    "primitive" Primitive
+    "compact" Compact
+    "bitsequence" BitSequence
 }
 
 /// How many bytes the values of a type take.
@@ -62,15 +103,10 @@ pub enum Class {
     Sized,
 }
 
-/// Displays as the command prints it.
-impl fmt::Display for Class {
-    fn fmt(&self, f: &mut fmt::Formatter<'_>) -> fmt::Result {
-        f.pad(match self {
-            Class::NoValue => "NoValue",
-            Class::Empty => "Empty",
-            Class::Sized => "Sized",
-        })
-    }
+words! { Class:
+    "NoValue" NoValue
+    "Empty" Empty
+    "Sized" Sized
 }
 
 /// A primitive type, in the order of scale-info's `TypeDefPrimitive`.
@@ -105,27 +141,22 @@ impl Primitive {
     }
 }
 
-/// Displays as the command prints it.
-impl fmt::Display for Primitive {
-    fn fmt(&self, f: &mut fmt::Formatter<'_>) -> fmt::Result {
-        f.pad(match self {
-            Primitive::Bool => "bool",
-            Primitive::Char => "char",
-            Primitive::Str => "str",
-            Primitive::U8 => "u8",
-            Primitive::U16 => "u16",
-            Primitive::U32 => "u32",
-            Primitive::U64 => "u64",
-            Primitive::U128 => "u128",
-            Primitive::U256 => "u256",
-            Primitive::I8 => "i8",
-            Primitive::I16 => "i16",
-            Primitive::I32 => "i32",
-            Primitive::I64 => "i64",
-            Primitive::I128 => "i128",
-            Primitive::I256 => "i256",
-        })
-    }
+words! { Primitive:
+    "bool" Bool
+    "char" Char
+    "str" Str
+    "u8" U8
+    "u16" U16
+    "u32" U32
+    "u64" U64
+    "u128" U128
+    "u256" U256
+    "i8" I8
+    "i16" I16
+    "i32" I32
+    "i64" I64
+    "i128" I128
+    "i256" I256
 }
 
 /// A field of a composite or of a variant, or a member of a tuple.
@@ -207,7 +238,7 @@ impl Variant {
 /// let variants = count.variants()?;
 /// assert_eq!((variants[1].name(), variants[1].index()), ("Two", 9));
 /// let x = &variants[0].fields()[0];
-/// assert_eq!((x.name(), x.type_id()), (Some("x"), 0));
+/// assert_eq!((x.name(), u32::from(x.type_id())), (Some("x"), 0));
 /// # Ok(())
 /// # }
 /// ```
@@ -261,12 +292,12 @@ impl<'r> Type<'r> {
     pub fn element(self) -> Option<TypeId> {
         use TypeKind::{Array, BitSequence, Compact, Sequence};
         matches!(self.kind(), Sequence | Array | Compact | BitSequence)
-            .then_some(self.shape.element)
+            .then_some(TypeId::new(self.shape.element))
     }
 
     /// Returns the type whose path names the order of a bit sequence. It need not exist.
     pub fn order(self) -> Option<TypeId> {
-        (self.kind() == TypeKind::BitSequence).then_some(self.shape.order)
+        (self.kind() == TypeKind::BitSequence).then_some(TypeId::new(self.shape.order))
     }
 
     /// Returns the number of elements of an array.
@@ -305,6 +336,12 @@ impl<'r> Type<'r> {
     }
 }
 
+impl From<Type<'_>> for TypeId {
+    fn from(one: Type<'_>) -> TypeId {
+        one.id
+    }
+}
+
 impl fmt::Debug for Type<'_> {
     fn fmt(&self, f: &mut fmt::Formatter<'_>) -> fmt::Result {
         f.debug_struct("Type")
@@ -318,7 +355,7 @@ impl fmt::Debug for Type<'_> {
 #[derive(Clone, Debug)]
 pub struct Types<'r> {
     pub(crate) registry: &'r Registry,
-    pub(crate) rest: Range<TypeId>,
+    pub(crate) rest: Range<u32>,
 }
 
 impl<'r> Iterator for Types<'r> {

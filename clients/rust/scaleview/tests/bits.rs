@@ -5,7 +5,7 @@ mod common;
 use common::*;
 use scaleview::{
     Bits, Error, Item, Kind, Limits, NodeReason, OpenOptions, Progress, Registry,
-    TryFromValueError, TypeKind, ValueReason,
+    TryFromValueError, TypeId, TypeKind, ValueReason,
 };
 use std::collections::HashSet;
 
@@ -140,7 +140,7 @@ fn an_unused_bit_is_rejected_at_its_byte() {
                             reason: ValueReason::UnusedBits,
                             place: (prefix + at) as u64,
                         };
-                        assert_eq!(registry.decode(2, &wrong), Err(error));
+                        assert_eq!(registry.decode(2, &wrong), Err(error.clone()));
                         assert_eq!(registry.decode_json(2, &wrong), Err(error));
                     }
                 }
@@ -158,12 +158,12 @@ fn an_unused_bit_is_rejected_at_its_byte() {
 fn check_rejected(registry: &Registry) {
     let (reason, place) = (ValueReason::BitSequence, 0);
     let error = Error::Value { reason, place };
-    assert_eq!(registry.decode(2, b"\x04\x01"), Err(error));
+    assert_eq!(registry.decode(2, b"\x04\x01"), Err(error.clone()));
     assert_eq!(registry.decode_json(2, b"\x04\x01"), Err(error));
     let (reason, index) = (NodeReason::BitSequence, 0);
     let error = Error::Node { reason, index };
     for item in [Item::bits(&[true]), Item::bits(&[]), Item::Unit] {
-        assert_eq!(registry.encode(2, &item), Err(error), "{item:?}");
+        assert_eq!(registry.encode(2, &item), Err(error.clone()), "{item:?}");
     }
     let item = Item::fields([Item::bits(&[true]), 1.into()]);
     let (reason, index) = (NodeReason::BitSequence, 1);
@@ -241,7 +241,11 @@ fn items_of_another_kind_are_rejected() {
         (2, Item::Unit),
         (2, Item::Empties(1)),
     ] {
-        assert_eq!(registry.encode(id, &item), Err(error), "{item:?} of {id}");
+        assert_eq!(
+            registry.encode(id, &item),
+            Err(error.clone()),
+            "{item:?} of {id}"
+        );
     }
 }
 
@@ -281,7 +285,11 @@ fn parts_are_bits_too() {
     let (kind, order) = (registry.get(2).unwrap(), registry.get(1).unwrap());
     assert_eq!(
         (kind.kind(), kind.element(), kind.order()),
-        (TypeKind::BitSequence, Some(0), Some(1))
+        (
+            TypeKind::BitSequence,
+            Some(TypeId::new(0)),
+            Some(TypeId::new(1))
+        )
     );
     assert_eq!((order.order(), order.path()), (None, Ok("bitvec::Lsb0")));
     // Equal words of two orders are not the same bits.

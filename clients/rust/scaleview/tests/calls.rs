@@ -4,7 +4,8 @@ mod common;
 
 use common::*;
 use scaleview::{
-    Error, Kind, Limits, NodeReason, Progress, Registry, RegistryReason, Session, ValueReason,
+    Error, Kind, Limits, NodeReason, Progress, Registry, RegistryReason, Session, TypeId,
+    ValueReason,
 };
 
 fn value_error(reason: ValueReason, place: u64) -> Error {
@@ -26,15 +27,15 @@ fn sessions_of_one_registry_do_not_meet() {
 
 #[test]
 fn errors_have_reason_and_place() {
-    let truncated = value_error(ValueReason::Truncated, 1);
+    let truncated = || value_error(ValueReason::Truncated, 1);
     let registry = Registry::open(U16).unwrap();
-    assert_eq!(registry.decode_json(0, b"\x01"), Err(truncated));
-    assert_eq!(registry.decode(0, b"\x01"), Err(truncated));
+    assert_eq!(registry.decode_json(0, b"\x01"), Err(truncated()));
+    assert_eq!(registry.decode(0, b"\x01"), Err(truncated()));
     let mut session = registry.start(0, Limits::new()).unwrap();
     assert_eq!(session.feed(b"\x01"), Ok(Progress::More));
-    assert_eq!(session.finish(), Err(truncated));
-    assert_eq!(session.finish_json(), Err(truncated));
-    assert_eq!(session.feed(b"\x00"), Err(truncated));
+    assert_eq!(session.finish(), Err(truncated()));
+    assert_eq!(session.finish_json(), Err(truncated()));
+    assert_eq!(session.feed(b"\x00"), Err(truncated()));
     let deep = Limits::new().depth(1025);
     assert_eq!(registry.start(0, deep).err(), Some(Error::LimitOutOfRange));
     assert_eq!(
@@ -46,7 +47,10 @@ fn errors_have_reason_and_place() {
         Registry::open(b"\x04\x04").err(),
         Some(Error::Registry { reason, place: 1 })
     );
-    let dangling = Error::UnknownReference { from: 0, to: 1 };
+    let dangling = Error::UnknownReference {
+        from: TypeId::new(0),
+        to: TypeId::new(1),
+    };
     assert_eq!(
         Registry::open(b"\x04\x00\x00\x00\x02\x04\x00").err(),
         Some(dangling)
@@ -55,18 +59,19 @@ fn errors_have_reason_and_place() {
 
 #[test]
 fn an_unknown_type_is_named() {
-    let unknown = Error::UnknownType { id: 13 };
+    let id = TypeId::new(13);
+    let unknown = || Error::UnknownType { id };
     let registry = Registry::open(U16).unwrap();
-    assert_eq!(registry.decode(13, b"\x01"), Err(unknown));
-    assert_eq!(registry.decode(13, &[0; 2000]), Err(unknown));
-    assert_eq!(registry.decode_json(13, b"\x01"), Err(unknown));
-    assert_eq!(registry.encode(13, &scaleview::Item::Unit), Err(unknown));
+    assert_eq!(registry.decode(13, b"\x01"), Err(unknown()));
+    assert_eq!(registry.decode(13, &[0; 2000]), Err(unknown()));
+    assert_eq!(registry.decode_json(13, b"\x01"), Err(unknown()));
+    assert_eq!(registry.encode(13, &scaleview::Item::Unit), Err(unknown()));
     assert_eq!(
         registry.encode(13, &registry.decode(0, b"\x01\x00").unwrap()),
-        Err(unknown)
+        Err(unknown())
     );
-    assert_eq!(registry.type_line(13), Err(unknown));
-    assert_eq!(registry.start(13, Limits::new()).err(), Some(unknown));
+    assert_eq!(registry.type_line(13), Err(unknown()));
+    assert_eq!(registry.start(13, Limits::new()).err(), Some(unknown()));
     assert!(registry.get(13).is_none());
 }
 
@@ -81,10 +86,18 @@ fn errors_are_told_as_the_command_does() {
             "registry: BadOption at 9",
         ),
         (
-            Error::UnknownReference { from: 0, to: 1 },
+            Error::UnknownReference {
+                from: TypeId::new(0),
+                to: TypeId::new(1),
+            },
             "check: UnknownType 1 in type 0",
         ),
-        (Error::UnknownType { id: 13 }, "type: UnknownType 13"),
+        (
+            Error::UnknownType {
+                id: TypeId::new(13),
+            },
+            "type: UnknownType 13",
+        ),
         (
             value_error(ValueReason::Truncated, 1),
             "value: Truncated at 1",
@@ -232,19 +245,19 @@ fn a_limit_of_bytes_is_kept() {
         cut.finish_json(),
         Err(value_error(ValueReason::Truncated, 2))
     );
-    let too_long = value_error(ValueReason::TooLong, 2);
+    let too_long = || value_error(ValueReason::TooLong, 2);
     let mut session = registry.start(0, limits).unwrap();
     for _ in 0..2 {
-        assert_eq!(session.feed(b"\x01\x02\x03"), Err(too_long));
+        assert_eq!(session.feed(b"\x01\x02\x03"), Err(too_long()));
         assert_eq!(
             (session.taken(), session.nodes(), session.text_bytes()),
             (2, 0, 0)
         );
     }
-    assert_eq!(session.finish(), Err(too_long));
+    assert_eq!(session.finish(), Err(too_long()));
     assert_eq!(
         registry.decode_json_within(0, b"\x01\x02\x03\x04", limits),
-        Err(too_long)
+        Err(too_long())
     );
     assert_eq!(
         registry.decode(0, b"\x01\x02\x00\x00").unwrap().kind(),
@@ -334,9 +347,9 @@ fn large_values_are_rejected_as_small_ones() {
     for count in [4000, 400_000] {
         let value = [compact(count as u32), vec![7; count]].concat();
         let rejected = |id, limits| registry.decode_within(id, &value, limits).err();
-        let limits = Limits::new();
+        let (limits, id) = (Limits::new(), TypeId::new(2));
         assert_eq!(rejected(1, limits), None);
-        assert_eq!(rejected(2, limits), Some(Error::UnknownType { id: 2 }));
+        assert_eq!(rejected(2, limits), Some(Error::UnknownType { id }));
         let too_deep = limits.depth(1025);
         assert_eq!(rejected(1, too_deep), Some(Error::LimitOutOfRange));
         let too_long = value_error(ValueReason::TooLong, 3000);

@@ -3,7 +3,7 @@
 mod common;
 
 use common::*;
-use scaleview::{Item, Registry, TryFromValueError, Value};
+use scaleview::{Item, Limits, Registry, TryFromValueError, TypeId, Value};
 use std::collections::HashSet;
 use std::fmt::Debug;
 
@@ -84,7 +84,7 @@ fn a_registry_is_iterated() {
     for one in &registry {
         ids.push(one.id());
     }
-    assert_eq!(ids, (0..18).collect::<Vec<_>>());
+    assert_eq!(ids, (0..18).map(TypeId::new).collect::<Vec<_>>());
     assert_eq!((&registry).into_iter().len(), 18);
 }
 
@@ -100,4 +100,81 @@ fn what_is_equal_is_one_entry_of_a_set() {
     let items = [Item::from(1), Item::from(1u8), Item::from(2), Item::Unit];
     // 1 is signed, and 1u8 is not.
     assert_eq!(items.iter().chain(&items).collect::<HashSet<_>>().len(), 4);
+}
+
+/// Builds an item of texts and names that are made where it is built.
+fn built(number: u32) -> Item<'static> {
+    let text = |word| Item::from(format!("{word} {number}"));
+    let fields = [("b".to_string(), text("b")), ("a".to_string(), text("a"))];
+    Item::list([Item::named(fields), Item::fields([text("c"), text("d")])])
+}
+
+#[test]
+fn an_item_owns_texts_names_and_bytes() {
+    // A str, struct { a: str, b: str }, a sequence of it, a u8, and a sequence of that.
+    let registry = Registry::open(&types(&[
+        vec![5, 2],
+        composite(&[("a", 0), ("b", 0)]),
+        vec![2, 4],
+        vec![5, 3],
+        vec![2, 12],
+    ]))
+    .unwrap();
+    let item = std::thread::spawn(|| built(7)).join().unwrap();
+    let bytes = registry.encode(2, &item).unwrap();
+    assert_eq!(bytes, b"\x08\x0ca 7\x0cb 7\x0cc 7\x0cd 7");
+    let text = String::from("é");
+    let texts = [Item::from(&text), text.as_str().into(), text.clone().into()];
+    assert!(texts.iter().all(|item| *item == texts[0]));
+    let bytes = vec![1, 2];
+    let [one, other, owned] = [
+        Item::from(&bytes),
+        Item::bytes(&bytes),
+        bytes.clone().into(),
+    ];
+    assert_eq!((&one, &other), (&owned, &owned));
+    assert_eq!(registry.encode(4, &owned), Ok(vec![8, 1, 2]));
+}
+
+#[test]
+fn a_view_becomes_an_item() {
+    let registry = Registry::open(&paths()).unwrap();
+    let value = registry.decode(9, &top()).unwrap();
+    let newtype = |inner| Item::fields([inner]);
+    let id = |bytes| newtype(Item::bytes(bytes));
+    let fields = [("remark", Item::bytes(b"x")), ("value", 7u128.into())];
+    let wanted = Item::named([
+        ("id", newtype(id(b"\xaa\xbb".as_slice()))),
+        (
+            "calls",
+            Item::variant("System", [Item::named_variant("remark", fields)]),
+        ),
+        ("list", Item::list([id(b"\x01\x02"), id(b"\x03\x04")])),
+        ("tuple", Item::fields([5u32.into()])),
+        ("1", 9u32.into()),
+    ]);
+    assert_eq!(Item::from(&value), wanted);
+    let part = value.get("list").unwrap();
+    assert_eq!(
+        Item::from(part),
+        Item::list([id(b"\x01\x02"), id(b"\x03\x04")])
+    );
+    let Item::Named(mut fields) = Item::from(&value) else {
+        panic!("a composite")
+    };
+    fields[4].1 = 8.into();
+    let mut changed = top();
+    let last = changed.len() - 4;
+    changed[last] = 8;
+    assert_eq!(registry.encode(9, &Item::Named(fields)), Ok(changed));
+}
+
+#[test]
+fn a_deep_view_becomes_an_item() {
+    let registry = Registry::open(NAMED).unwrap();
+    let limits = Limits::new().depth(1024);
+    let bytes = named_chain(1024);
+    let value = registry.decode_within(0, &bytes, limits).unwrap();
+    let item = Item::from(&value);
+    assert_eq!(registry.encode_within(0, &item, limits), Ok(bytes));
 }

@@ -1,7 +1,7 @@
 //! The stored answers of the examples: each value as JSON by the library and by its nodes, whole
 //! and in pieces, and back.
 
-use scaleview::{Limits, Registry};
+use scaleview::{Item, Limits, Registry};
 use std::fs;
 use std::path::{Path, PathBuf};
 
@@ -16,6 +16,7 @@ fn check_value(registry: &Registry, id: u32, bytes: &[u8], json: &str) {
     let value = registry.decode(id, bytes).unwrap();
     assert_eq!(value.to_string(), json);
     assert_eq!(registry.encode(id, &value).unwrap(), bytes);
+    assert_eq!(registry.encode(id, &Item::from(&value)).unwrap(), bytes);
     let mut session = registry.start(id, Limits::new()).unwrap();
     for piece in bytes.chunks(5) {
         let _ = session.feed(piece).unwrap();

@@ -41,7 +41,7 @@ fn empties() -> Registry {
 
 /// An Outer, written as its type reads.
 fn outer() -> Item<'static> {
-    let pair = Item::fields([Item::named([]), Item::fields([])]);
+    let pair = Item::fields([Item::named::<&str>([]), Item::fields([])]);
     Item::named([("inner", Item::fields([])), ("pair", pair)])
 }
 
@@ -54,17 +54,17 @@ fn full(b: u8) -> Item<'static> {
 #[test]
 fn items_without_bytes_may_be_written_as_their_type_reads() {
     let registry = empties();
-    let reversed = Item::named([("pair", Item::Unit), ("inner", Item::named([]))]);
+    let reversed = Item::named([("pair", Item::Unit), ("inner", Item::named::<&str>([]))]);
     for (id, item, bytes) in [
         (0, Item::Unit, [].as_slice()),
         (0, Item::fields([]), &[]),
         (1, Item::fields([]), &[]),
-        (1, Item::named([]), &[]),
+        (1, Item::named::<&str>([]), &[]),
         (2, Item::Unit, &[]),
         (2, Item::fields([Item::Unit, Item::Unit]), &[]),
         (2, outer(), &[]),
         (2, reversed, &[]),
-        (3, Item::fields([Item::named([]), Item::Unit]), &[]),
+        (3, Item::fields([Item::named::<&str>([]), Item::Unit]), &[]),
         (4, Item::Unit, &[]),
         (4, Item::list([outer(), Item::Unit, outer()]), &[]),
         (6, Item::list([]), &[]),
@@ -120,25 +120,23 @@ fn wrong_items_without_bytes_are_rejected() {
 #[test]
 fn types_with_and_without_bytes_reject_alike() {
     let registry = empties();
-    let alike = |empty, sized, item: Item, error| {
-        assert_eq!(registry.encode(empty, &item), Err(error), "{item:?}");
-        assert_eq!(registry.encode(sized, &item), Err(error), "{item:?}");
+    let alike = |empty, sized, item: Item, error: Error| {
+        let error = Err(error);
+        assert_eq!(registry.encode(empty, &item), error, "{item:?}");
+        assert_eq!(registry.encode(sized, &item), error, "{item:?}");
     };
     let rejected = |reason| Error::Node { reason, index: 0 };
-    let (kind, range) = (
-        rejected(NodeReason::WrongKind),
-        rejected(NodeReason::OutOfRange),
-    );
-    alike(2, 8, Item::from(1), kind);
-    alike(2, 8, Item::list([]), kind);
-    alike(2, 8, Item::bytes(b""), kind);
-    alike(2, 8, Item::variant("A", []), kind);
-    alike(2, 8, Item::fields([Item::Unit]), range);
-    alike(6, 11, Item::bytes(b"abc"), range);
+    let (kind, range) = (NodeReason::WrongKind, NodeReason::OutOfRange);
+    alike(2, 8, Item::from(1), rejected(kind));
+    alike(2, 8, Item::list([]), rejected(kind));
+    alike(2, 8, Item::bytes(b""), rejected(kind));
+    alike(2, 8, Item::variant("A", []), rejected(kind));
+    alike(2, 8, Item::fields([Item::Unit]), rejected(range));
+    alike(6, 11, Item::bytes(b"abc"), rejected(range));
     let unknown = Error::UnknownField { index: 0, field: 0 };
     alike(2, 8, Item::named([("x", Item::Unit)]), unknown);
     let missing = Error::MissingField { index: 0, field: 0 };
-    alike(2, 8, Item::named([]), missing);
+    alike(2, 8, Item::named::<&str>([]), missing);
 }
 
 fn unknown(index: u64, field: u32) -> Result<Vec<u8>, Error> {

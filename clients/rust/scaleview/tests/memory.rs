@@ -8,6 +8,7 @@ use std::alloc::{GlobalAlloc, Layout, System};
 use std::cell::Cell;
 use std::fmt::Write;
 use std::ptr;
+use std::sync::Arc;
 
 thread_local! {
     /// How many allocations of this thread succeed.
@@ -165,13 +166,16 @@ fn names_may_lack_memory() {
     let bytes = metadata("small chain 15");
     check("open metadata", || Metadata::open(&bytes));
     let chain = Metadata::open(&bytes).unwrap();
-    check("list names", || {
-        chain.names().try_for_each(|named| named.map(|_| ()))
-    });
-    let pair = chain.constant("Other", "Pair").unwrap();
+    let listed = with_allocations(0, || chain.names().count());
+    assert_eq!(listed, 29);
+    let pair = with_allocations(0, || chain.constant("Other.Pair").unwrap());
+    let unknown = with_allocations(0, || chain.constant("Other.None").err());
+    assert_eq!(unknown, Some(Error::Memory));
+    let none = with_allocations(0, || chain.call().unwrap().bytes());
+    assert_eq!(none, Err(Error::Memory));
     check("bytes of a name", || pair.bytes());
     check("the value of a name", || pair.value().map(|_| ()));
-    let call = chain.extrinsic().unwrap().type_id();
+    let call = chain.extrinsic().unwrap();
     check("decode an opaque value", || {
         chain.decode_opaque_json(call, b"\x18\x04\x01\xd2\x04\0\0")
     });
@@ -192,6 +196,26 @@ fn a_large_value_is_allocated_once() {
     // 32 bytes for each node, and the names of the types.
     let size = 32 * (COUNT + 1);
     assert!((size..size + 4096).contains(&allocated), "{allocated}");
+}
+
+#[test]
+fn owned_values_may_lack_memory() {
+    let registry = Arc::new(Registry::open(NAMED).unwrap());
+    let value = named_chain(40);
+    check("decode an owned value", || registry.decode_owned(0, &value));
+    let mut session = registry.start_owned(0, Limits::new()).unwrap();
+    let _ = session.feed(&value).unwrap();
+    check("finish an owned value", || session.finish());
+    let decoded = registry.decode(0, &value).unwrap();
+    let owned = with_allocations(0, || decoded.into_owned(&registry));
+    assert_eq!(owned, registry.decode_owned(0, &value).ok());
+}
+
+#[test]
+fn json_for_the_web_may_lack_memory() {
+    let registry = Registry::open(NAMED).unwrap();
+    let value = registry.decode(0, &named_chain(40)).unwrap();
+    check("to_web_json", || value.to_web_json());
 }
 
 #[test]

@@ -4,7 +4,7 @@ mod common;
 
 use common::*;
 use scaleview::{
-    Error, Limits, Metadata, Named, OpenOptions, Progress, Registry, RegistryReason, TypeKind,
+    Error, Limits, Metadata, OpenOptions, Progress, Registry, RegistryReason, TypeId, TypeKind,
     ValueReason,
 };
 use std::fs;
@@ -17,8 +17,13 @@ fn small() -> Metadata {
     Metadata::open(&metadata("small chain 15")).unwrap()
 }
 
-fn id(named: Option<Named<'_>>) -> Option<u32> {
-    named.map(|named| named.type_id())
+fn id<N: Into<TypeId>>(named: Result<N, Error>) -> Option<u32> {
+    named.ok().map(|named| named.into().get())
+}
+
+fn unknown(name: &str) -> Error {
+    let name = name.to_string();
+    Error::UnknownName { name }
 }
 
 fn value_error(reason: ValueReason, place: u64) -> Error {
@@ -35,66 +40,77 @@ fn names_are_found_by_their_parts() {
     assert_eq!(id(chain.calls("Sys")), Some(3));
     assert_eq!(id(chain.events("Other")), Some(11));
     assert_eq!(id(chain.errors("Sys")), Some(12));
-    assert_eq!(id(chain.storage("Sys", "Owner")), Some(2));
-    assert_eq!(id(chain.key("Sys", "Owner")), Some(17));
-    assert_eq!(id(chain.constant("Other", "Pair")), Some(5));
-    assert_eq!(id(chain.result("Core", "run")), Some(4));
-    assert_eq!(id(chain.params("Core", "run")), Some(20));
-    let method = chain.api("Pool", "check").unwrap();
-    assert_eq!((method.params.type_id(), method.result.type_id()), (21, 5));
+    assert_eq!(id(chain.storage("Sys.Owner")), Some(2));
+    let key = chain.storage("Sys.Owner").unwrap().key().unwrap();
+    assert_eq!((key.name(), key.type_id().get()), ("key:Sys.Owner", 17));
+    assert_eq!(id(chain.constant("Other.Pair")), Some(5));
+    let method = |name| {
+        let method = chain.api(name).unwrap();
+        (method.params.type_id().get(), method.result.type_id().get())
+    };
+    assert_eq!(method("Core.run"), (20, 4));
+    assert_eq!(method("Pool.check"), (21, 5));
     assert_eq!(id(chain.custom("Sys.Now")), Some(0));
     assert_eq!(id(chain.named("storage:Sys.Owner")), Some(2));
 }
 
 #[test]
-fn unknown_names_are_none() {
+fn unknown_names_are_told() {
     let chain = small();
-    assert!(chain.calls("Other").is_none());
-    assert!(chain.events("Sy").is_none());
-    assert!(chain.errors("Other").is_none());
-    assert!(chain.storage("Sys", "now").is_none());
-    assert!(chain.key("Sys", "").is_none());
-    assert!(chain.constant("Sys", "Now").is_none());
-    assert!(chain.result("Core", "check").is_none());
-    assert!(chain.params("Pool", "run").is_none());
-    assert!(chain.api("Pool", "run").is_none());
-    assert!(chain.custom("Sys").is_none());
-    assert!(chain.named("").is_none());
+    assert_eq!(chain.calls("Other").err(), Some(unknown("calls:Other")));
+    assert_eq!(chain.events("Sy").err(), Some(unknown("events:Sy")));
+    assert_eq!(chain.errors("Other").err(), Some(unknown("errors:Other")));
+    let entry = chain.storage("Sys.now");
+    assert_eq!(entry.err(), Some(unknown("storage:Sys.now")));
+    let constant = chain.constant("Sys.Now");
+    assert_eq!(constant.err(), Some(unknown("constant:Sys.Now")));
+    let method = chain.api("Core.check");
+    assert_eq!(method.err(), Some(unknown("params:Core.check")));
+    assert_eq!(chain.custom("Sys").err(), Some(unknown("custom:Sys")));
+    assert_eq!(chain.named("").err(), Some(unknown("")));
+    assert_eq!(chain.named("storag").err(), Some(unknown("storag")));
+    let told = unknown("storage:\"\n").to_string();
+    assert_eq!(told, r#"type: UnknownName "storage:\"\n""#);
     let old = Metadata::open(&metadata("small chain 14")).unwrap();
     assert_eq!(
         (id(old.call()), id(old.event()), id(old.error())),
         (Some(3), None, None)
     );
     let unsigned = metadata("extrinsic without the parameter signature");
-    assert!(Metadata::open(&unsigned).unwrap().extrinsic().is_none());
+    let chain = Metadata::open(&unsigned).unwrap();
+    assert_eq!(chain.extrinsic().err(), Some(unknown("extrinsic")));
+    let error = chain.decode_extrinsic(b"\x04\x04").err();
+    assert_eq!(error, Some(unknown("extrinsic")));
 }
 
 #[test]
 fn a_name_has_a_type() {
     let chain = small();
-    let named = chain.params("Core", "run").unwrap();
-    assert_eq!((named.name(), named.type_id()), ("params:Core.run", 20));
+    let named = chain.api("Core.run").unwrap().params;
     assert_eq!(
-        (named.ty().id(), named.ty().kind()),
-        (20, TypeKind::Composite)
+        (named.name(), named.type_id().get()),
+        ("params:Core.run", 20)
     );
-    let fields = named.ty().fields().unwrap();
-    let fields: Vec<_> = fields
+    let ty = named.ty().unwrap();
+    assert_eq!((ty.id().get(), ty.kind()), (20, TypeKind::Composite));
+    let fields: Vec<_> = ty
+        .fields()
+        .unwrap()
         .iter()
-        .map(|field| (field.name(), field.type_id()))
+        .map(|field| (field.name(), field.type_id().get()))
         .collect();
     assert_eq!(fields, [(Some("block"), 2), (Some("at"), 1)]);
-    assert_eq!(format!("{:?}", named.clone()), format!("{named:?}"));
+    let shown = r#"Named { name: "params:Core.run", type_id: TypeId(20), .. }"#;
+    assert_eq!(format!("{named:?}"), shown);
 }
 
 #[test]
 fn names_are_listed_in_order() {
     let chain = small();
-    let names: Result<Vec<_>, Error> = chain.names().collect();
-    let names = names.unwrap();
+    let names: Vec<_> = chain.names().collect();
     let first: Vec<_> = names[..9]
         .iter()
-        .map(|named| (named.name(), named.type_id()))
+        .map(|named| (named.name(), named.type_id().get()))
         .collect();
     assert_eq!(
         first,
@@ -113,44 +129,91 @@ fn names_are_listed_in_order() {
     assert_eq!((names.len(), names[28].name()), (29, "custom:Sys.Now"));
     assert!(names[28].has_bytes() && !names[0].has_bytes());
     let mut rest = chain.names();
-    assert_eq!(rest.by_ref().count(), 29);
-    assert!(rest.next().is_none() && rest.next().is_none());
+    assert_eq!(rest.len(), 29);
+    let last = rest.next_back().map(|named| named.name());
+    assert_eq!((last, rest.by_ref().count()), (Some("custom:Sys.Now"), 28));
+    assert!(rest.next().is_none() && rest.next_back().is_none());
+    assert_eq!((&chain).into_iter().len(), 29);
+}
+
+#[test]
+fn entries_and_constants_are_listed() {
+    let chain = small();
+    let entries: Vec<_> = chain.storage_entries().map(|entry| entry.name()).collect();
+    assert_eq!(entries[..2], ["Sys.Now", "Sys.Last"]);
+    let constants: Vec<_> = chain.constants().map(|constant| constant.name()).collect();
+    assert_eq!(constants.last(), Some(&"Other.Pair"));
+    let by_word = |word| {
+        let names = chain.names().map(|named| named.name());
+        names.filter(|name| name.starts_with(word)).count()
+    };
+    assert_eq!(entries.len(), by_word("storage:"));
+    assert_eq!(constants.len(), by_word("constant:"));
 }
 
 #[test]
 fn some_names_have_bytes() {
     let chain = small();
-    let now = chain.storage("Sys", "Now").unwrap();
-    assert_eq!(
-        (now.has_bytes(), now.bytes().unwrap()),
-        (true, vec![42, 0, 0, 0])
-    );
-    assert_eq!(now.value().unwrap().as_u128(), Some(42));
-    let pair = chain.constant("Other", "Pair").unwrap().value().unwrap();
-    assert_eq!(pair.to_string(), "[1,2]");
-    assert_eq!(
-        chain.custom("Owner").unwrap().value().unwrap().to_string(),
-        "1"
-    );
-    for named in [
-        chain.storage("Sys", "Last"),
-        chain.storage("Sys", "Code"),
-        chain.call(),
-    ] {
-        let named = named.unwrap();
+    let now = chain.storage("Sys.Now").unwrap();
+    assert_eq!(now.value().bytes(), Ok(vec![42, 0, 0, 0]));
+    let default = now.default().unwrap();
+    assert_eq!(default.and_then(|now| now.as_u128()), Some(42));
+    let pair = chain.constant("Other.Pair").unwrap();
+    assert_eq!(pair.bytes(), Ok(vec![1, 0, 0, 0, 2]));
+    assert_eq!((pair.name(), pair.type_id().get()), ("Other.Pair", 5));
+    assert_eq!(pair.value().unwrap().to_string(), "[1,2]");
+    let owner = chain.custom("Owner").unwrap();
+    assert_eq!(owner.value().unwrap().to_string(), "1");
+    let last = chain.storage("Sys.Last").unwrap();
+    assert_eq!(last.default(), Ok(None));
+    for named in [last.value(), chain.call().unwrap()] {
         assert!(!named.has_bytes());
-        assert_eq!(named.bytes(), Err(Error::NoBytes));
-        assert_eq!(named.value().err(), Some(Error::NoBytes));
+        let name = named.name().to_string();
+        let none = Error::NoBytes { name };
+        assert_eq!(named.bytes().err(), Some(none.clone()));
+        assert_eq!(named.value().err(), Some(none));
     }
-    assert_eq!(Error::NoBytes.to_string(), "type: NoBytes");
+    let name = "call".to_string();
+    let told = Error::NoBytes { name }.to_string();
+    assert_eq!(told, r#"type: NoBytes "call""#);
+}
+
+#[test]
+fn values_and_keys_are_decoded_by_name() {
+    let chain = small();
+    let now = chain.storage("Sys.Now").unwrap();
+    assert_eq!(now.decode(b"\x07\0\0\0").unwrap().as_u128(), Some(7));
+    let key = [[1; 16], [2; 16]].concat();
+    let key = now.decode_key(&key).unwrap();
+    let entry = key.at("entry").and_then(|entry| entry.as_bytes());
+    assert_eq!(entry, Some([2; 16].as_slice()));
+    let run = chain.api("Core.run").unwrap().params;
+    let value = run.decode(b"\x04\xff\x07\0\0\0").unwrap();
+    let (json, bytes) = (r#"{"at":7,"block":"0xff"}"#, run.encode(&value).unwrap());
+    assert_eq!(value.to_string(), json);
+    assert_eq!(run.decode_json(&bytes), Ok(json.to_string()));
+    let limits = Limits::new().bytes(2);
+    let error = value_error(ValueReason::TooLong, 2);
+    assert_eq!(run.decode_within(&bytes, limits).err(), Some(error));
+    assert_eq!(chain.decode(run, &bytes), Ok(value));
+}
+
+#[test]
+fn an_entry_may_have_no_type_of_keys() {
+    let chain = Metadata::open(&metadata("maps by several hashers")).unwrap();
+    // Its key is a tuple of two, and it has no hasher.
+    let entry = chain.storage("M.NoneOfPair").unwrap();
+    assert!(entry.key().is_none());
+    let error = entry.decode_key(b"").err();
+    assert_eq!(error, Some(unknown("key:M.NoneOfPair")));
 }
 
 #[test]
 fn bytes_of_a_name_need_not_be_a_value() {
     let chain = Metadata::open(&metadata("types without values")).unwrap();
-    let none = chain.storage("S", "NoValue").unwrap();
+    let none = chain.storage("S.NoValue").unwrap();
     let error = value_error(ValueReason::NoFiniteValue, 0);
-    assert_eq!(none.value().err(), Some(error));
+    assert_eq!(none.default().err(), Some(error));
 }
 
 #[test]
@@ -179,7 +242,7 @@ fn bits_are_read_by_the_option() {
             .bits(bits)
             .open_with_names(&bytes)
             .unwrap();
-        let id = chain.storage("S", "B").unwrap().type_id();
+        let id = chain.storage("S.B").unwrap().type_id();
         // Its store is at the position of a synthetic type, so its values are never read.
         let error = value_error(ValueReason::BitSequence, 0);
         assert_eq!(chain.decode(id, b"\x04\x01").err(), Some(error));
@@ -206,11 +269,15 @@ fn a_fault_after_the_registry_has_a_reason_and_a_place() {
     let longer = [bytes.as_slice(), &[0]].concat();
     assert_eq!(open(&longer), Error::Registry { reason, place: 456 });
     // The type of the first entry, and the element of an own type: 13 is a synthetic one.
-    let unknown = Error::UnknownMetadataReference { to: 13, place: 234 };
+    let to = TypeId::new(13);
+    let unknown = Error::UnknownMetadataReference { to, place: 234 };
     assert_eq!(changed(234, 13 << 2), unknown);
     assert_eq!(
         changed(22, 13 << 2),
-        Error::UnknownReference { from: 2, to: 13 }
+        Error::UnknownReference {
+            from: TypeId::new(2),
+            to
+        }
     );
     let reason = RegistryReason::NotMetadata;
     assert_eq!(open(U16), Error::Registry { reason, place: 0 });
@@ -221,7 +288,8 @@ fn faults_of_metadata_are_told_as_the_command_does() {
     let reason = ValueReason::NoSuchVariant;
     let told = Error::Metadata { reason, place: 222 }.to_string();
     assert_eq!(told, "registry: NoSuchVariant at 222");
-    let told = Error::UnknownMetadataReference { to: 13, place: 234 }.to_string();
+    let to = TypeId::new(13);
+    let told = Error::UnknownMetadataReference { to, place: 234 }.to_string();
     assert_eq!(told, "registry: UnknownReference to type 13 at 234");
 }
 
@@ -260,7 +328,8 @@ fn an_opaque_value_has_places_from_its_length() {
     );
     // The type is looked for first.
     let unknown = registry.decode_opaque(1, b"").err();
-    assert_eq!(unknown, Some(Error::UnknownType { id: 1 }));
+    let id = TypeId::new(1);
+    assert_eq!(unknown, Some(Error::UnknownType { id }));
 }
 
 #[test]
@@ -303,7 +372,6 @@ fn the_names_of_the_examples_are_listed() {
         let chain = Metadata::open(&example(&format!("chain/{name}.metadata"))).unwrap();
         let mut lines = String::new();
         for named in chain.names() {
-            let named = named.unwrap();
             lines += &format!("{} {}\n", named.name(), named.type_id());
         }
         assert_eq!(lines.into_bytes(), example(&format!("chain/{name}.names")));
@@ -316,20 +384,19 @@ fn the_values_of_the_examples_are_decoded() {
         .bits(true)
         .open_with_names(&example("chain/chain.metadata"))
         .unwrap();
-    let key = chain.key("System", "Account").unwrap().type_id();
-    let json = chain.decode_json(key, &example("chain/key.scale")).unwrap();
-    assert_eq!(json, example_text("chain/key.json"));
-    let account = chain.storage("System", "Account").unwrap().type_id();
-    let json = chain
-        .decode_json(account, &example("runtime/account_info.scale"))
+    let account = chain.storage("System.Account").unwrap();
+    let key = account.decode_key(&example("chain/key.scale")).unwrap();
+    assert_eq!(key.to_string(), example_text("chain/key.json"));
+    let value = account
+        .decode(&example("runtime/account_info.scale"))
         .unwrap();
-    assert_eq!(json, example_text("runtime/account_info.json"));
-    let extrinsic = chain.extrinsic().unwrap().type_id();
+    assert_eq!(value.to_string(), example_text("runtime/account_info.json"));
+    let extrinsic = chain.extrinsic().unwrap();
     let transfer = example("chain/transfer.scale");
     let json = chain.decode_opaque_json(extrinsic, &transfer).unwrap();
     assert_eq!(json, example_text("chain/transfer.json"));
     let value = chain
-        .decode_opaque(extrinsic, &example_of_hex("chain/extrinsic.hex"))
+        .decode_extrinsic(&example_of_hex("chain/extrinsic.hex"))
         .unwrap();
     assert!(value.to_string().contains(r#""bitfields":"0b11011110101""#));
     let call = chain.call().unwrap().type_id();
@@ -337,6 +404,6 @@ fn the_values_of_the_examples_are_decoded() {
         .decode(call, &example_of_hex("chain/call.hex"))
         .unwrap();
     assert_eq!(value.variant_name(), Some("Utility"));
-    let deposit = chain.constant("Balances", "ExistentialDeposit").unwrap();
+    let deposit = chain.constant("Balances.ExistentialDeposit").unwrap();
     assert_eq!(deposit.value().unwrap().as_u128(), Some(10_000_000_000));
 }

@@ -4,7 +4,8 @@ mod common;
 
 use common::*;
 use scaleview::{
-    Error, Item, Limits, Metadata, Named, OwnedSession, Progress, Registry, Session, Value,
+    Error, Item, Limits, Metadata, Named, OwnedSession, OwnedValue, Progress, Registry, Session,
+    Storage, Value,
 };
 use std::collections::HashSet;
 use std::path::Path;
@@ -26,9 +27,12 @@ fn all_may_be_sent_and_shared() {
     may::<Registry>();
     may::<Metadata>();
     may::<Named>();
+    may::<Storage>();
     may::<Session>();
     may::<OwnedSession>();
     may::<Value>();
+    may::<OwnedValue>();
+    may::<OwnedValue<Metadata>>();
     may::<Error>();
 }
 
@@ -88,6 +92,61 @@ fn a_struct_owns_a_registry_and_its_session() {
     assert_eq!(reader.session.finish_json(), Ok("7".to_string()));
 }
 
+/// The value outlives all but its share of the registry.
+fn read(types: &[u8], bytes: &[u8]) -> Result<OwnedValue, Error> {
+    Arc::new(Registry::open(types)?).decode_owned(0, bytes)
+}
+
+#[test]
+fn an_owned_value_is_returned_and_sent() {
+    let value = read(U16, b"\x07\x00").unwrap();
+    let value = thread::spawn(move || {
+        assert_eq!(value.as_u128(), Some(7));
+        value
+    })
+    .join()
+    .unwrap();
+    assert_eq!(Arc::strong_count(value.owner()), 1);
+    assert_eq!(value.registry().encode(0, &value), Ok(vec![7, 0]));
+    assert_eq!(value.clone(), value);
+    assert_eq!(format!("{value} {value:?}"), "7 Value(7 of type 0)");
+}
+
+#[test]
+fn a_value_takes_a_share_of_its_own_registry_alone() {
+    let (registry, other) = (
+        Arc::new(Registry::open(U16).unwrap()),
+        Arc::new(Registry::open(U16).unwrap()),
+    );
+    let decode = || registry.decode(0, b"\x07\x00").unwrap();
+    assert!(decode().into_owned(&other).is_none());
+    let owned = decode().into_owned(&registry).unwrap();
+    assert!(Arc::ptr_eq(owned.owner(), &registry));
+    assert_eq!(owned, decode());
+    let mut session = registry.start_owned(0, Limits::new()).unwrap();
+    assert_eq!(session.feed(b"\x07\x00"), Ok(Progress::Done { used: 2 }));
+    let finished = session.finish().unwrap();
+    drop(session);
+    assert_eq!(thread::spawn(move || finished).join().unwrap(), owned);
+}
+
+#[test]
+fn an_owned_value_shares_metadata() {
+    let chain = Arc::new(Metadata::open(&metadata("small chain 15")).unwrap());
+    let run = chain.api("Core.run").unwrap().params;
+    let bytes = b"\x04\xff\x07\0\0\0";
+    let value = chain.decode_owned(run, bytes).unwrap();
+    let again = run.decode(bytes).unwrap().into_owned(&chain).unwrap();
+    let mut session = chain.start_owned(run, Limits::new()).unwrap();
+    assert_eq!(session.feed(bytes), Ok(Progress::Done { used: 6 }));
+    assert_eq!((&session.finish().unwrap(), &value), (&again, &again));
+    let too_long = chain.decode_owned_within(run, bytes, Limits::new().bytes(1));
+    assert!(too_long.is_err());
+    drop((chain, session, again));
+    let at = thread::spawn(move || value.at("at").and_then(|at| at.as_u128()));
+    assert_eq!(at.join().unwrap(), Some(7));
+}
+
 /// What is made of a value: by a session in pieces, by one call, and back.
 fn make(registry: &Registry, id: u32, bytes: &[u8], step: usize) -> [String; 3] {
     let mut session = registry.start(id, Limits::new()).unwrap();
@@ -136,7 +195,7 @@ fn four_threads_ask_for_names() {
                 begun.wait();
                 for _ in 0..100 {
                     assert_eq!(chain.names().count(), 29);
-                    let pair = chain.constant("Other", "Pair").unwrap();
+                    let pair = chain.constant("Other.Pair").unwrap();
                     assert_eq!(pair.value().unwrap().to_string(), "[1,2]");
                 }
             });

@@ -4,7 +4,7 @@ mod common;
 
 use common::*;
 use scaleview::{
-    Class, Error, Item, Kind, Limits, Memory, NodeReason, Primitive, Registry, TypeKind,
+    Class, Error, Item, Kind, Limits, Memory, NodeReason, Primitive, Registry, TypeId, TypeKind,
     ValueReason,
 };
 use std::fs;
@@ -98,14 +98,14 @@ fn types_are_described() {
         .unwrap();
     assert_eq!(
         (account.id(), account.kind(), account.class()),
-        (7, TypeKind::Composite, Class::Sized)
+        (TypeId::new(7), TypeKind::Composite, Class::Sized)
     );
     let array = registry
         .get(account.fields().unwrap()[0].type_id())
         .unwrap();
     assert_eq!(
         (array.kind(), array.array_len(), array.element()),
-        (TypeKind::Array, Some(32), Some(9))
+        (TypeKind::Array, Some(32), Some(TypeId::new(9)))
     );
     assert_eq!(registry.get(9).unwrap().primitive(), Some(Primitive::U8));
     let event = registry
@@ -266,7 +266,7 @@ fn a_value_offers_what_its_view_does() {
     assert_eq!((yes.as_bool(), yes.as_char()), (Some(true), None));
     assert_eq!((letter.as_bool(), letter.as_char()), (None, Some('a')));
     assert_eq!(decode(9, b"\xff").as_i128(), Some(-1));
-    assert_eq!(yes.ty().map(|ty| ty.id()), Some(0));
+    assert_eq!(yes.ty().map(|ty| ty.id()), Some(TypeId::new(0)));
     assert_eq!(yes.variant_name(), None);
     let chain = Registry::open(CHAIN).unwrap();
     let value = chain.decode(0, &common::chain(1)).unwrap();
@@ -298,10 +298,10 @@ fn debug_names_what_is_shown() {
 fn types_are_walked_from_both_ends() {
     let registry = numbers();
     let mut types = registry.types();
-    assert_eq!(types.next_back().map(|one| one.id()), Some(22));
+    assert_eq!(types.next_back().map(|one| one.id()), Some(TypeId::new(22)));
     assert_eq!(types.len(), 22);
     let ids: Vec<_> = types.by_ref().rev().map(|one| one.id()).collect();
-    assert_eq!(ids, (0..22).rev().collect::<Vec<_>>());
+    assert_eq!(ids, (0..22).rev().map(TypeId::new).collect::<Vec<_>>());
     assert!(types.next().is_none() && types.next_back().is_none());
 }
 

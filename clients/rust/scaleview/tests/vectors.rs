@@ -57,7 +57,7 @@ fn check_types(registry: &Registry) {
     for (id, one) in (0..).zip(registry.types()) {
         assert_eq!(
             (one.id(), registry.find_from(id, one.path().unwrap())),
-            (id, Some(id))
+            (TypeId::new(id), Some(TypeId::new(id)))
         );
         let line = registry.type_line(id).unwrap();
         let kind = one
@@ -231,8 +231,7 @@ fn counts_of(bytes: &[u8]) -> Result<String, Error> {
     let own = Registry::open_metadata(bytes)?.len();
     let mut names = 0;
     for named in metadata.names() {
-        let named = named?;
-        let found = metadata.named(named.name()).expect("the same name");
+        let found = metadata.named(named.name())?;
         assert_eq!(found.type_id(), named.type_id());
         assert_eq!(found.has_bytes(), named.has_bytes());
         names += 1;
@@ -327,13 +326,9 @@ impl<'a> Line<'a> {
     }
 
     fn by_name(&self, file: &[u8], value: &[u8]) -> Result<String, String> {
-        let told = |error: Error| match error {
-            Error::NoBytes => format!("{error} {}", quoted(self.name)),
-            error => error.to_string(),
-        };
+        let told = |error: Error| error.to_string();
         let metadata = self.options.open_with_names(file).map_err(told)?;
-        let unknown = || format!("type: UnknownName {}", quoted(self.name));
-        let named = metadata.named(self.name).ok_or_else(unknown)?;
+        let named = metadata.named(self.name).map_err(told)?;
         let bytes = if self.has_value {
             value.to_vec()
         } else {
@@ -358,7 +353,6 @@ fn list(bytes: &[u8]) -> Result<String, String> {
     let metadata = Metadata::open(bytes).map_err(|error| error.to_string())?;
     let mut lines = String::new();
     for named in metadata.names() {
-        let named = named.expect("a name");
         let is_plain = named.name().chars().all(|c| c >= ' ');
         let name = if is_plain {
             named.name().to_string()

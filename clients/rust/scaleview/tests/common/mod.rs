@@ -96,3 +96,95 @@ pub fn compact(number: u32) -> Vec<u8> {
         (number * 4 + 2).to_le_bytes().to_vec()
     }
 }
+
+/// Returns a registry of types without paths, by their definitions.
+pub fn types(definitions: &[Vec<u8>]) -> Vec<u8> {
+    let mut bytes = vec![definitions.len() as u8 * 4];
+    for (id, definition) in (0u8..).zip(definitions) {
+        bytes.extend([&[id * 4, 0, 0], definition.as_slice(), &[0]].concat());
+    }
+    bytes
+}
+
+/// Fields by their names, of which the empty one stands for none, and the positions of their types.
+pub fn fields(fields: &[(&str, u8)]) -> Vec<u8> {
+    let mut bytes = vec![fields.len() as u8 * 4];
+    for (name, id) in fields {
+        if name.is_empty() {
+            bytes.push(0);
+        } else {
+            bytes.extend([1, name.len() as u8 * 4]);
+            bytes.extend(name.as_bytes());
+        }
+        bytes.extend([id * 4, 0, 0]);
+    }
+    bytes
+}
+
+/// The definition of a composite.
+pub fn composite(list: &[(&str, u8)]) -> Vec<u8> {
+    [vec![0], fields(list)].concat()
+}
+
+/// The definition of a variant, whose arms have their positions as indexes.
+pub fn variant(arms: &[(&str, &[(&str, u8)])]) -> Vec<u8> {
+    let mut bytes = vec![1, arms.len() as u8 * 4];
+    for (index, (name, list)) in (0u8..).zip(arms) {
+        bytes.push(name.len() as u8 * 4);
+        bytes.extend([name.as_bytes(), &fields(list), &[index, 0]].concat());
+    }
+    bytes
+}
+
+/// A registry of a composite with what paths lead through: type 9.
+///
+/// | type | |
+/// |---|---|
+/// | 0 | `u32` |
+/// | 1 | `u128` |
+/// | 2 | `u8` |
+/// | 3 | `[u8; 2]` |
+/// | 4 | `struct Id([u8; 2])` |
+/// | 5 | `struct Deep(Id)` |
+/// | 6 | `enum Call { remark { remark: Vec<u8>, value: u128 } }` |
+/// | 7 | `Vec<u8>` |
+/// | 8 | `Vec<Id>` |
+/// | 9 | `struct Top { id: Deep, calls: Outer, list: Vec<Id>, tuple: (u32,), 1: u32 }` |
+/// | 10 | `(u32,)` |
+/// | 11 | `enum Outer { System(Call), Idle, Pair(u32, Id) }` |
+pub fn paths() -> Vec<u8> {
+    types(&[
+        vec![5, 5],
+        vec![5, 7],
+        vec![5, 3],
+        vec![3, 2, 0, 0, 0, 8],
+        composite(&[("", 3)]),
+        composite(&[("", 4)]),
+        variant(&[("remark", &[("remark", 7), ("value", 1)])]),
+        vec![2, 8],
+        vec![2, 16],
+        composite(&[
+            ("id", 5),
+            ("calls", 11),
+            ("list", 8),
+            ("tuple", 10),
+            ("1", 0),
+        ]),
+        vec![4, 4, 0],
+        variant(&[
+            ("System", &[("", 6)]),
+            ("Idle", &[]),
+            ("Pair", &[("", 0), ("", 4)]),
+        ]),
+    ])
+}
+
+/// The bytes of a Top of [`paths`].
+pub fn top() -> Vec<u8> {
+    [
+        b"\xaa\xbb\x00\x00\x04x".as_slice(),
+        &7u128.to_le_bytes(),
+        b"\x08\x01\x02\x03\x04\x05\0\0\0\x09\0\0\0",
+    ]
+    .concat()
+}
