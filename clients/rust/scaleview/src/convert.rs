@@ -74,10 +74,19 @@ fn item_of<'a>(value: ValueRef<'a>, made: &mut Vec<Item<'a>>) -> Item<'a> {
     }
 }
 
+/// Returns whether an earlier variant of the type has the name of this one.
+fn shares_name(value: ValueRef<'_>) -> bool {
+    let variants = value.variants().and_then(<[_]>::split_last);
+    variants.is_some_and(|(own, earlier)| earlier.iter().any(|one| one.name() == own.name()))
+}
+
 /// Returns the item of a part whose parts are made, its first one last.
 fn parent_of<'a>(value: ValueRef<'a>, made: &mut Vec<Item<'a>>) -> Item<'a> {
     let first = made.len().saturating_sub(value.children().len());
     let parts = made.drain(first..).rev();
+    if let Some(index) = value.variant_index().filter(|_| shares_name(value)) {
+        return Item::indexed_variant(index, parts);
+    }
     let fields = value.list().filter(|list| list.keys != Keys::Array);
     match (value.variant_name(), fields) {
         (None, None) if value.kind() == Kind::List => Item::List(parts.collect()),
@@ -94,10 +103,7 @@ fn parent_of<'a>(value: ValueRef<'a>, made: &mut Vec<Item<'a>>) -> Item<'a> {
 }
 
 /// Borrows texts, bytes, bits and names, and encodes as the same bytes. Fields are given by their
-/// names if all have different ones.
-///
-/// A variant is given by its name. If an earlier variant of the type has that name too, it is
-/// encoded as the earlier one.
+/// names if all have different ones, and a variant by its name unless an earlier one has it too.
 ///
 /// # Examples
 ///

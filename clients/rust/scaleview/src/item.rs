@@ -64,6 +64,9 @@ pub enum Item<'a> {
     Named(Vec<(Cow<'a, str>, Item<'a>)>),
     /// A variant by its name, with its fields in their order.
     Variant(Cow<'a, str>, Vec<Item<'a>>),
+    /// A variant by its index, which is the first byte of its values, with its fields in their
+    /// order.
+    IndexedVariant(u8, Vec<Item<'a>>),
     /// A variant by its name, with its fields by their names.
     NamedVariant(Cow<'a, str>, Vec<(Cow<'a, str>, Item<'a>)>),
     /// The elements of an array, or of a sequence of another type than u8.
@@ -93,6 +96,12 @@ impl<'a> Item<'a> {
         fields: impl IntoIterator<Item = Item<'a>>,
     ) -> Item<'a> {
         Item::Variant(name.into(), fields.into_iter().collect())
+    }
+
+    /// Returns a variant by its index, which is the first byte of its values, with its fields in
+    /// their order. So variants that share a name are told apart.
+    pub fn indexed_variant(index: u8, fields: impl IntoIterator<Item = Item<'a>>) -> Item<'a> {
+        Item::IndexedVariant(index, fields.into_iter().collect())
     }
 
     /// Returns a variant by its name, with its fields by their names.

@@ -7,7 +7,7 @@ use crate::error::{Error, NodeReason};
 use crate::item::Item;
 use crate::registry::Registry;
 use crate::type_id::TypeId;
-use crate::types::{Field, Primitive};
+use crate::types::{Field, Primitive, Variant};
 use scaleview_sys::{self as sys, scaleview_node as Node, scaleview_type_shape as Shape};
 use std::borrow::Cow;
 use std::ptr;
@@ -214,7 +214,10 @@ impl<'a> Lowering<'a> {
             }
             position += 1;
             match item {
-                Item::Fields(items) | Item::Variant(_, items) | Item::List(items) => {
+                Item::Fields(items)
+                | Item::Variant(_, items)
+                | Item::IndexedVariant(_, items)
+                | Item::List(items) => {
                     for item in items.iter().rev() {
                         buffer::push(&mut rest, item)?;
                     }
@@ -298,18 +301,24 @@ impl<'a> Lowering<'a> {
     }
 
     /// Puts the node of a variant, and leaves its fields to be taken.
-    fn take_variant(&mut self, id: TypeId, name: &str, item: &'a Item<'a>) -> Result<(), Error> {
+    fn take_variant(&mut self, id: TypeId, item: &'a Item<'a>) -> Result<(), Error> {
         let details = self.registry.details(id)?;
         if details.shape.kind != sys::SCALEVIEW_VARIANT {
             return Err(self.rejected(NodeReason::WrongKind));
         }
-        let found = (0..)
-            .zip(&details.variants)
-            .find(|(_, variant)| variant.name() == name);
+        let is_wanted = |variant: &Variant| match item {
+            Item::Variant(name, _) | Item::NamedVariant(name, _) => variant.name() == name,
+            Item::IndexedVariant(index, _) => variant.index() == *index,
+            _ => false,
+        };
+        let mut variants = (0..).zip(&details.variants);
+        let found = variants.find(|(_, variant)| is_wanted(variant));
         let (arm, variant) = found.ok_or_else(|| self.rejected(NodeReason::NoSuchVariant))?;
         match item {
             Item::NamedVariant(_, items) => self.leave_named(variant.fields(), item, items)?,
-            Item::Variant(_, items) => self.leave(variant.fields(), items)?,
+            Item::Variant(_, items) | Item::IndexedVariant(_, items) => {
+                self.leave(variant.fields(), items)?
+            }
             _ => {}
         }
         self.put_parent(sys::SCALEVIEW_NODE_ARM, id, arm, variant.fields().len())
@@ -342,8 +351,8 @@ impl<'a> Lowering<'a> {
                 self.put_parent(sys::SCALEVIEW_NODE_FIELDS, id, 0, items.len())
             }
             Item::Fields(_) | Item::Named(_) => Err(self.rejected(NodeReason::WrongKind)),
-            Item::Variant(name, _) | Item::NamedVariant(name, _) => {
-                self.take_variant(id, name, item)
+            Item::Variant(..) | Item::NamedVariant(..) | Item::IndexedVariant(..) => {
+                self.take_variant(id, item)
             }
         }
     }

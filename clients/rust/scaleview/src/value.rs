@@ -190,6 +190,11 @@ impl<R: RegistryRef> AnyValue<R> {
         self.root().variant_name()
     }
 
+    /// Does what [`ValueRef::variant_index`] does.
+    pub fn variant_index(&self) -> Option<u8> {
+        self.root().variant_index()
+    }
+
     /// Does what [`ValueRef::variant`] does.
     pub fn variant(&self) -> Option<(&str, Children<'_>)> {
         self.root().variant()

@@ -5,7 +5,7 @@ use crate::describe::Details;
 use crate::parts::{Children, Fields};
 use crate::registry::Registry;
 use crate::type_id::TypeId;
-use crate::types::{FieldList, Primitive, Type};
+use crate::types::{FieldList, Primitive, Type, Variant};
 use scaleview_sys::{self as sys, scaleview_node as Node};
 use std::{fmt, str};
 
@@ -192,7 +192,7 @@ impl<'a> ValueRef<'a> {
         let node = self.node();
         match node.kind {
             sys::SCALEVIEW_NODE_FIELDS => Some(&self.details()?.list),
-            sys::SCALEVIEW_NODE_ARM => Some(&self.details()?.variants.get(node.arm as usize)?.list),
+            sys::SCALEVIEW_NODE_ARM => self.variants()?.last().map(|variant| &variant.list),
             _ => None,
         }
     }
@@ -258,16 +258,23 @@ impl<'a> ValueRef<'a> {
         self.child(position)
     }
 
-    /// Returns the variant's name.
-    pub fn variant_name(self) -> Option<&'a str> {
+    /// Returns the variants of its type up to its own, if it is a variant.
+    pub(crate) fn variants(self) -> Option<&'a [Variant]> {
         let node = self.node();
         if node.kind != sys::SCALEVIEW_NODE_ARM {
             return None;
         }
-        self.details()?
-            .variants
-            .get(node.arm as usize)
-            .map(|variant| variant.name())
+        self.details()?.variants.get(..=node.arm as usize)
+    }
+
+    /// Returns the variant's name.
+    pub fn variant_name(self) -> Option<&'a str> {
+        self.variants()?.last().map(Variant::name)
+    }
+
+    /// Returns the variant's index, which is the first byte of its values.
+    pub fn variant_index(self) -> Option<u8> {
+        self.variants()?.last().map(Variant::index)
     }
 
     /// Returns the variant's name and its fields.

@@ -228,3 +228,27 @@ fn names_in_reverse_order_are_found_soon() {
     assert_eq!(registry.encode(1, &odd), unknown(0, 9));
     assert!(begun.elapsed() < Duration::from_secs(20));
 }
+
+#[test]
+fn a_variant_may_be_given_by_its_index() {
+    // enum { A, A(u8) }, and a u8.
+    let arms = variant(&[("A", &[]), ("A", &[("", 1)])]);
+    let registry = Registry::open(&types(&[arms, vec![5, 3]])).unwrap();
+    let encode = |id: u32, item: Item| registry.encode(id, &item);
+    let rejected = |reason| Err(Error::Node { reason, index: 0 });
+    let indexed = |index| Item::indexed_variant(index, [7.into()]);
+    assert_eq!(encode(0, indexed(1)), Ok(vec![1, 7]));
+    assert_eq!(encode(0, Item::indexed_variant(0, [])), Ok(vec![0]));
+    assert_eq!(encode(0, indexed(0)), rejected(NodeReason::OutOfRange));
+    assert_eq!(encode(0, indexed(2)), rejected(NodeReason::NoSuchVariant));
+    assert_eq!(encode(1, indexed(1)), rejected(NodeReason::WrongKind));
+    let value = registry.decode(0, b"\x01\x07").unwrap();
+    assert_eq!(
+        (value.variant_name(), value.variant_index()),
+        (Some("A"), Some(1))
+    );
+    assert_eq!(Item::from(&value), Item::indexed_variant(1, [7u8.into()]));
+    let first = registry.decode(0, b"\0").unwrap();
+    assert_eq!(Item::from(&first), Item::variant("A", []));
+    assert_eq!(registry.decode(1, b"\0").unwrap().variant_index(), None);
+}

@@ -148,6 +148,9 @@ impl<'a> Row<'a> {
             "{}",
             self.name
         );
+        let item = Item::from(value);
+        let encoded = registry.encode_within(self.id, &item, limits);
+        assert_eq!(encoded.as_ref(), Ok(&self.bytes), "{}", self.name);
         assert_eq!(
             registry
                 .decode_within(self.id, &self.bytes, limits)
