@@ -9,7 +9,6 @@ use scaleview_sys::{self as sys, scaleview_answer as Answer};
 use std::hash::{BuildHasher, Hasher, RandomState};
 
 /// A name with its type.
-#[derive(Clone, Debug)]
 pub(crate) struct Entry {
     pub name: String,
     pub type_id: TypeId,
@@ -24,7 +23,6 @@ impl Entry {
 
 /// The names of metadata.
 // The library looks through all of them for each name, and a table of hashes needn't.
-#[derive(Clone, Debug)]
 pub(crate) struct Index {
     /// In the order of the metadata.
     pub entries: Vec<Entry>,

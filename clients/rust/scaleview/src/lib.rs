@@ -5,7 +5,8 @@
 //! number of values: as a [`Value`] to walk through, as JSON text, or in pieces by a [`Session`].
 //! It encodes a [`Value`] again, or an [`Item`] that a program builds. [`Metadata`] is a registry
 //! that knows its types by what they are for: storage entries and their keys, constants, calls,
-//! events, extrinsics. The decoder behind this crate is proved; this wrapper is tested.
+//! events, extrinsics. A [`Value`] borrows its registry, and an [`OwnedValue`] shares it. The
+//! decoder behind this crate is proved; this wrapper is tested.
 //!
 //! ```
 //! # fn main() -> Result<(), scaleview::Error> {

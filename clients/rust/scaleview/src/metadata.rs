@@ -11,8 +11,8 @@ use crate::type_id::TypeId;
 use crate::value::{AnyValue, OwnedValue, Value};
 use std::iter::FusedIterator;
 use std::ops::Deref;
-use std::slice;
 use std::sync::Arc;
+use std::{fmt, slice};
 
 /// A chain's metadata, version 14 or 15, with the names that it gives to types.
 ///
@@ -20,9 +20,8 @@ use std::sync::Arc;
 /// own types come synthetic ones: those of extrinsics, of storage keys and of what the methods of
 /// runtime APIs take, and the few small types that these need.
 ///
-/// A name is looked up by its hash, whatever the number of names, and without an allocation. A
-/// pallet, an entry and the like stand in it as they do in the metadata, and a name is compared
-/// as a whole, never cut at a dot.
+/// A pallet, an entry and the like stand in a name as they do in the metadata, and a name is
+/// compared as a whole, never cut at a dot.
 ///
 /// # Examples
 ///
@@ -45,7 +44,6 @@ use std::sync::Arc;
 /// # Ok(())
 /// # }
 /// ```
-#[derive(Debug)]
 pub struct Metadata {
     registry: Registry,
     index: Index,
@@ -362,6 +360,15 @@ impl Deref for Metadata {
     }
 }
 
+impl fmt::Debug for Metadata {
+    fn fmt(&self, f: &mut fmt::Formatter<'_>) -> fmt::Result {
+        f.debug_struct("Metadata")
+            .field("registry", &self.registry)
+            .field("names", &self.index.entries.len())
+            .finish()
+    }
+}
+
 impl<'m> IntoIterator for &'m Metadata {
     type Item = Named<'m>;
     type IntoIter = Names<'m>;
@@ -372,7 +379,7 @@ impl<'m> IntoIterator for &'m Metadata {
 }
 
 /// The names of metadata, in its order, by [`Metadata::names`].
-#[derive(Clone, Debug)]
+#[derive(Clone)]
 pub struct Names<'m> {
     registry: &'m Registry,
     entries: slice::Iter<'m, Entry>,
@@ -401,3 +408,9 @@ impl DoubleEndedIterator for Names<'_> {
 impl ExactSizeIterator for Names<'_> {}
 
 impl FusedIterator for Names<'_> {}
+
+impl fmt::Debug for Names<'_> {
+    fn fmt(&self, f: &mut fmt::Formatter<'_>) -> fmt::Result {
+        f.debug_list().entries(self.clone()).finish()
+    }
+}

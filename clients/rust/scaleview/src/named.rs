@@ -51,8 +51,7 @@ impl<'m> Named<'m> {
         self.entry.has_bytes
     }
 
-    /// Returns the bytes that the metadata has for the name. They need not be a value. The library
-    /// looks through the names for them.
+    /// Returns the bytes that the metadata has for the name. They need not be a value.
     ///
     /// # Errors
     /// `NoBytes` with the name, `Memory`.

@@ -1,6 +1,8 @@
 //! The parts of a value.
 
+use crate::registry_ref::RegistryRef;
 use crate::types::Field;
+use crate::value::AnyValue;
 use crate::view::ValueRef;
 use scaleview_sys::{self as sys, scaleview_node as Node};
 use std::iter::FusedIterator;
@@ -42,6 +44,26 @@ impl<'a> Iterator for Children<'a> {
 }
 
 impl ExactSizeIterator for Children<'_> {}
+
+/// Iterates over the parts, as [`ValueRef::children`] does.
+impl<'a> IntoIterator for ValueRef<'a> {
+    type Item = ValueRef<'a>;
+    type IntoIter = Children<'a>;
+
+    fn into_iter(self) -> Children<'a> {
+        self.children()
+    }
+}
+
+/// Iterates over the parts, as [`ValueRef::children`] does.
+impl<'a, R: RegistryRef> IntoIterator for &'a AnyValue<R> {
+    type Item = ValueRef<'a>;
+    type IntoIter = Children<'a>;
+
+    fn into_iter(self) -> Children<'a> {
+        self.children()
+    }
+}
 
 impl FusedIterator for Children<'_> {}
 

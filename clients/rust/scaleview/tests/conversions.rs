@@ -89,6 +89,20 @@ fn a_registry_is_iterated() {
 }
 
 #[test]
+fn a_value_is_iterated() {
+    let registry = leaves();
+    let letters = registry.decode(17, b"\x08a\0\0\0b\0\0\0").unwrap();
+    let mut found = String::new();
+    for letter in &letters {
+        found.extend(letter.as_char());
+    }
+    for letter in letters.root() {
+        found.extend(letter.as_char());
+    }
+    assert_eq!(found, "abab");
+}
+
+#[test]
 fn what_is_equal_is_one_entry_of_a_set() {
     let registry = Registry::open(NAMED).unwrap();
     let chain = registry.get(0).unwrap();

@@ -134,6 +134,14 @@ fn names_are_listed_in_order() {
     assert_eq!((last, rest.by_ref().count()), (Some("custom:Sys.Now"), 28));
     assert!(rest.next().is_none() && rest.next_back().is_none());
     assert_eq!((&chain).into_iter().len(), 29);
+    let shown = format!("{chain:?}");
+    assert!(
+        shown.starts_with("Metadata { registry: Registry {"),
+        "{shown}"
+    );
+    assert!(shown.ends_with("names: 29 }"), "{shown}");
+    let first = r#"[Named { name: "extrinsic", type_id: TypeId(13), .. }, "#;
+    assert!(format!("{:?}", chain.names()).starts_with(first));
 }
 
 #[test]
