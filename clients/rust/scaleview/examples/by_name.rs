@@ -8,7 +8,7 @@ use std::hint::black_box;
 use std::time::Instant;
 use std::{env, fs};
 
-const TURNS: u32 = 61;
+const TURNS: u32 = 501;
 
 /// Returns how many nanoseconds a run takes.
 fn nanos(times: u32, run: &mut dyn FnMut()) -> f64 {
@@ -50,7 +50,7 @@ fn main() -> Result<(), Box<dyn std::error::Error>> {
         return Err("usage: by_name METADATA ACCOUNT EVENTS".into());
     };
     let metadata = Metadata::open(&fs::read(metadata)?)?;
-    compare(&metadata, "System.Account", &fs::read(account)?, 5000)?;
-    compare(&metadata, "System.Events", &fs::read(events)?, 50)?;
+    compare(&metadata, "System.Account", &fs::read(account)?, 1000)?;
+    compare(&metadata, "System.Events", &fs::read(events)?, 20)?;
     Ok(())
 }

@@ -73,6 +73,7 @@ impl Index {
     }
 
     /// Returns the entry of a word with its colon, and of what follows it.
+    #[inline]
     pub fn find(&self, word: &str, path: &str) -> Option<&Entry> {
         let last = self.slots.len() - 1;
         let mut slot = hash(self.seed, word, path) as usize;
@@ -94,20 +95,20 @@ fn split(name: &str) -> (&str, &str) {
 }
 
 /// Returns the hash of a word and of what follows it.
+#[inline]
 fn hash(seed: u64, word: &str, path: &str) -> u64 {
-    let eights = path.as_bytes().chunks_exact(8);
-    let last = number_of(eights.remainder());
-    let path = eights.map(number_of).fold(seed, mix);
-    mix(mix(path, last), number_of(word.as_bytes()))
+    let eights = path.as_bytes().chunks_exact(8).map(last_eight);
+    let path = eights.fold(mix(seed, last_eight(path.as_bytes())), mix);
+    mix(path, last_eight(word.as_bytes()))
 }
 
-/// Returns the first eight bytes as a number.
-fn number_of(bytes: &[u8]) -> u64 {
-    match bytes.first_chunk() {
+/// Returns the last eight bytes as a number.
+#[inline]
+fn last_eight(bytes: &[u8]) -> u64 {
+    match bytes.last_chunk() {
         Some(eight) => u64::from_le_bytes(*eight),
         None => bytes
             .iter()
-            .rev()
             .fold(0, |number, byte| number << 8 | u64::from(*byte)),
     }
 }

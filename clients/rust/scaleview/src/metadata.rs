@@ -344,6 +344,7 @@ impl Metadata {
             .filter(move |named| named.name().starts_with(word))
     }
 
+    #[inline]
     fn of_word(&self, word: &str, path: &str) -> Result<Named<'_>, Error> {
         let found = self.index.find(word, path);
         found

@@ -384,7 +384,12 @@ impl Registry {
         bytes: &[u8],
         limits: Limits,
     ) -> Result<Value<'_>, Error> {
-        AnyValue::decoded(self, id.into(), bytes, limits)
+        self.value_of(id.into(), bytes, limits)
+    }
+
+    // It isn't generic, so it is compiled in this crate, beside what it calls.
+    fn value_of(&self, id: TypeId, bytes: &[u8], limits: Limits) -> Result<Value<'_>, Error> {
+        AnyValue::decoded(self, id, bytes, limits)
     }
 
     /// Decodes a value as [`decode`](Registry::decode) does. It shares the registry, so it may be
