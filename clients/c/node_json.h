@@ -36,8 +36,9 @@ static inline uint8_t *name_room(const scaleview_answer *answer) {
 }
 
 /* Writes the name of a node's child, or of its arm if `child` is NULL. */
-static inline uint32_t write_name(scaleview_registry registry, const scaleview_node *node, const uint32_t *child,
-                                  uint8_t *out, size_t room, scaleview_answer *answer) {
+static inline uint32_t write_name(scaleview_registry registry, const scaleview_node *node,
+                                  const uint32_t *child, uint8_t *out, size_t room,
+                                  scaleview_answer *answer) {
     if (!child) return scaleview_arm(registry, node->type, node->arm, out, room, answer);
     if (node->kind == SCALEVIEW_NODE_ARM)
         return scaleview_arm_field(registry, node->type, node->arm, *child, out, room, answer);
@@ -45,8 +46,8 @@ static inline uint32_t write_name(scaleview_registry registry, const scaleview_n
 }
 
 /* The same name in memory that the caller frees. */
-static inline uint8_t *name_of(scaleview_registry registry, const scaleview_node *node, const uint32_t *child,
-                               scaleview_answer *answer) {
+static inline uint8_t *name_of(scaleview_registry registry, const scaleview_node *node,
+                               const uint32_t *child, scaleview_answer *answer) {
     write_name(registry, node, child, NULL, 0, answer);
     uint8_t *name = name_room(answer);
     write_name(registry, node, child, name, (size_t)answer->length, answer);

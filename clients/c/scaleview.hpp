@@ -90,9 +90,10 @@ class error : public std::runtime_error {
     std::uint64_t place_;
 };
 
-/* How deep a value may be, how many bytes it may have, and how much memory the library may use for it.
- * Without a number the budget of memory is 64 MiB and 64 times the length of the input; 0 is no budget.
- * The input of a session is as long as `bytes`, and that of an encoding is its nodes and their bytes. */
+/* How deep a value may be, how many bytes it may have, and how much memory the library may use for
+ * it. Without a number the budget of memory is 64 MiB and 64 times the length of the input; 0 is no
+ * budget. The input of a session is as long as `bytes`, and that of an encoding is its nodes and
+ * their bytes. */
 struct limits {
     std::uint16_t depth = 64;
     std::uint64_t bytes = std::uint64_t{1} << 24;
@@ -100,7 +101,8 @@ struct limits {
 
     /* The number that the library takes for the budget of an input of this length. */
     std::uint64_t budget(std::uint64_t length) const {
-        constexpr auto base = std::uint64_t{64} << 20, most = std::numeric_limits<std::uint64_t>::max();
+        constexpr auto base = std::uint64_t{64} << 20;
+        constexpr auto most = std::numeric_limits<std::uint64_t>::max();
         if (memory) return *memory;
         return length > (most - base) / 64 ? most : base + 64 * length;
     }
@@ -298,7 +300,8 @@ class session {
     session(std::shared_ptr<detail::open_registry> registry, scaleview_registry open, std::uint32_t type, const limits &within)
         : registry_(std::move(registry)) {
         scaleview_answer answer;
-        scaleview_start(open, type, within.depth, within.bytes, within.budget(within.bytes), &handle_, &answer);
+        const auto budget = within.budget(within.bytes);
+        scaleview_start(open, type, within.depth, within.bytes, budget, &handle_, &answer);
         detail::expect_ok(answer, type);
     }
 
@@ -423,19 +426,22 @@ class registry {
 
     std::string decode_json(std::uint32_t id, bytes_view bytes, const limits &within = {}) const {
         const auto guess = 4 * few(bytes.size()) + 64;
+        const auto budget = within.budget(bytes.size());
         return detail::written<std::string>(guess, id, [&](std::uint8_t *out, std::size_t room, scaleview_answer *answer) {
-            return scaleview_decode(handle(), id, within.depth, within.bytes, within.budget(bytes.size()), bytes.data(),
+            return scaleview_decode(handle(), id, within.depth, within.bytes, budget, bytes.data(),
                                     bytes.size(), out, room, answer);
         });
     }
 
     value decode(std::uint32_t id, bytes_view bytes, const limits &within = {}) const {
         const auto guess = few(bytes.size());
+        const auto budget = within.budget(bytes.size());
         return detail::written_nodes(
             guess / 3 + 8, guess, id,
             [&](node *nodes, std::size_t room, std::uint8_t *pool, std::size_t pool_room, scaleview_answer *answer) {
-                return scaleview_decode_nodes(handle(), id, within.depth, within.bytes, within.budget(bytes.size()),
-                                              bytes.data(), bytes.size(), nodes, room, pool, pool_room, answer);
+                return scaleview_decode_nodes(handle(), id, within.depth, within.bytes, budget,
+                                              bytes.data(), bytes.size(), nodes, room, pool,
+                                              pool_room, answer);
             });
     }
 
@@ -447,10 +453,13 @@ class registry {
         });
     }
 
-    /* The position of the child whose field has this name, of a composite or a variant, if there is one. */
-    std::optional<std::size_t> child(const value &from, std::size_t position, std::string_view name) const {
+    /* The position of the child whose field has this name, of a composite or a variant, if there is
+     * one. */
+    std::optional<std::size_t> child(const value &from, std::size_t position,
+                                     std::string_view name) const {
         const auto &one = from.nodes.at(position);
-        if (one.kind != SCALEVIEW_NODE_FIELDS && one.kind != SCALEVIEW_NODE_ARM) return std::nullopt;
+        const bool has_fields = one.kind == SCALEVIEW_NODE_FIELDS || one.kind == SCALEVIEW_NODE_ARM;
+        if (!has_fields) return std::nullopt;
         auto next = position + 1;
         for (std::uint32_t i = 0; i < one.children; i++, next = from.after(next)) {
             const auto [text, answer] = named(one.type, [&](auto out, auto room, auto last) {

@@ -103,15 +103,17 @@ impl fmt::Display for ValueRef<'_> {
 impl ValueRef<'_> {
     /// Returns the value as JSON for JavaScript, and for other readers whose numbers are doubles.
     ///
-    /// It is the JSON of [`Registry::decode_json`](crate::Registry::decode_json), but for these:
+    /// It differs from the JSON of [`Registry::decode_json`](crate::Registry::decode_json) in this:
     ///
     /// - An integer of any width is a number from -(2^53 - 1) to 2^53 - 1, and otherwise a text of
-    ///   its decimal digits, which may begin with a minus sign. There it is a text by its type: if
-    ///   that has 128 bits, of decimal digits, and if it has 256, of hexadecimal ones.
-    /// - A newtype, a composite of one field without a name, is what it holds. There it is an array
-    ///   of that. A tuple, and the fields of a variant, are an array here too.
+    ///   its decimal digits, with a minus sign in front if it is negative. In `decode_json` the type
+    ///   decides: integers of 128 bits are texts of decimal digits, those of 256 bits are texts of
+    ///   hexadecimal digits, and all others are numbers.
+    /// - A newtype, which is a composite of one field without a name, is what it holds. In
+    ///   `decode_json` it is an array of that. A tuple of one member and the fields of a variant are
+    ///   arrays in both.
     ///
-    /// Bytes are a text of `0x` and two digits for each in both, and bits one of `0b` and a digit
+    /// In both, bytes are a text of `0x` and two digits for each, and bits one of `0b` and a digit
     /// for each. This form isn't proved, and doesn't tell a newtype from what it holds.
     ///
     /// # Errors
@@ -303,8 +305,10 @@ const MAX_SAFE: u128 = (1 << 53) - 1;
 
 /// Writes a 256-bit integer in the form for the web.
 fn write_web_wide(f: &mut fmt::Formatter<'_>, value: ValueRef<'_>, bytes: [u8; 32]) -> fmt::Result {
-    let is_signed = value.ty().and_then(|ty| ty.primitive()) == Some(Primitive::I256);
-    let wide = Wide::of(bytes, is_signed);
+    let wide = match value.ty().and_then(|ty| ty.primitive()) {
+        Some(Primitive::I256) => Wide::signed(bytes),
+        _ => Wide::unsigned(bytes),
+    };
     match value.as_i128() {
         Some(number) if number.unsigned_abs() <= MAX_SAFE => write!(f, "{number}"),
         _ => write!(f, "\"{wide}\""),

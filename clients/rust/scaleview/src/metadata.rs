@@ -89,7 +89,8 @@ impl Metadata {
         self.registry
     }
 
-    /// Returns the storage entry of a pallet and an entry, such as `System.Account`.
+    /// Returns the storage entry of this name: the pallet's, a dot and the entry's, such as
+    /// `System.Account`.
     ///
     /// # Errors
     /// `UnknownName`, `Memory`.
@@ -98,7 +99,8 @@ impl Metadata {
         Ok(Storage::of(value, &self.index))
     }
 
-    /// Returns the constant of a pallet and a name, such as `Balances.ExistentialDeposit`.
+    /// Returns the constant of this name: the pallet's, a dot and its own, such as
+    /// `Balances.ExistentialDeposit`.
     ///
     /// # Errors
     /// `UnknownName`, `Memory`.

@@ -10,7 +10,7 @@ mod sealed {
     /// No other crate may implement [`RegistryRef`](super::RegistryRef): a registry must stay open,
     /// at one place.
     pub trait Sealed {
-        fn get(&self) -> &Registry;
+        fn registry(&self) -> &Registry;
     }
 }
 
@@ -21,7 +21,7 @@ pub(crate) use sealed::Sealed;
 pub trait RegistryRef: Sealed + Clone {}
 
 impl Sealed for &Registry {
-    fn get(&self) -> &Registry {
+    fn registry(&self) -> &Registry {
         self
     }
 }
@@ -29,7 +29,7 @@ impl Sealed for &Registry {
 impl RegistryRef for &Registry {}
 
 impl Sealed for Arc<Registry> {
-    fn get(&self) -> &Registry {
+    fn registry(&self) -> &Registry {
         self
     }
 }
@@ -37,7 +37,7 @@ impl Sealed for Arc<Registry> {
 impl RegistryRef for Arc<Registry> {}
 
 impl Sealed for Arc<Metadata> {
-    fn get(&self) -> &Registry {
+    fn registry(&self) -> &Registry {
         self
     }
 }

@@ -123,7 +123,7 @@ impl<R: RegistryRef> AnySession<R> {
             },
             Answer::default(),
         );
-        let code = owner.get().counting(|open| {
+        let code = owner.registry().counting(|open| {
             // SAFETY: the registry is open, and no other session is started or freed; the places
             // are this call's, and the handle is null.
             unsafe {
@@ -155,7 +155,7 @@ impl<R: RegistryRef> AnySession<R> {
 
     /// Returns the registry.
     pub fn registry(&self) -> &Registry {
-        self.owner.get()
+        self.owner.registry()
     }
 
     /// Takes the next piece, which may be empty. A session that has answered keeps its answer.
@@ -305,7 +305,7 @@ impl<R: RegistryRef> Drop for AnySession<R> {
     fn drop(&mut self) {
         // SAFETY: as in `feed`; no other session is started or freed, and no call follows.
         self.owner
-            .get()
+            .registry()
             .counting(|_| self.changing(|session| unsafe { sys::scaleview_free(session) }));
     }
 }

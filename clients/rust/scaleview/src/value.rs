@@ -89,7 +89,7 @@ impl Value<'_> {
     where
         Arc<R>: RegistryRef,
     {
-        ptr::eq(self.owner, owner.get()).then(|| AnyValue {
+        ptr::eq(self.owner, owner.registry()).then(|| AnyValue {
             owner: Arc::clone(owner),
             nodes: self.nodes,
             pool: self.pool,
@@ -99,7 +99,7 @@ impl Value<'_> {
 
 impl<R: RegistryRef> AnyValue<R> {
     pub(crate) fn new(owner: R, nodes: Vec<Node>, pool: Vec<u8>) -> Result<AnyValue<R>, Error> {
-        owner.get().read_names(&nodes)?;
+        owner.registry().read_names(&nodes)?;
         Ok(AnyValue { owner, nodes, pool })
     }
 
@@ -109,14 +109,14 @@ impl<R: RegistryRef> AnyValue<R> {
         bytes: &[u8],
         limits: Limits,
     ) -> Result<AnyValue<R>, Error> {
-        let (nodes, pool) = owner.get().decode_nodes(id, bytes, limits)?;
+        let (nodes, pool) = owner.registry().decode_nodes(id, bytes, limits)?;
         AnyValue::new(owner, nodes, pool)
     }
 
     /// Returns the view of the whole value.
     pub fn root(&self) -> ValueRef<'_> {
         ValueRef {
-            registry: self.owner.get(),
+            registry: self.owner.registry(),
             nodes: &self.nodes,
             pool: &self.pool,
         }
@@ -124,7 +124,7 @@ impl<R: RegistryRef> AnyValue<R> {
 
     /// Returns the registry of its types.
     pub fn registry(&self) -> &Registry {
-        self.owner.get()
+        self.owner.registry()
     }
 
     /// Returns the reference that keeps its registry open.

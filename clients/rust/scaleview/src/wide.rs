@@ -10,18 +10,34 @@ pub(crate) struct Wide {
 }
 
 impl Wide {
-    /// Returns the integer of these bytes, the lowest first, in two's complement if it is signed.
-    pub fn of(bytes: [u8; 32], is_signed: bool) -> Wide {
-        let is_negative = is_signed && bytes.last().is_some_and(|byte| byte >> 7 == 1);
+    /// Returns the unsigned integer of these bytes, the lowest first.
+    pub fn unsigned(bytes: [u8; 32]) -> Wide {
         let mut limbs = [0; 8];
-        let mut carry = is_negative;
         for (limb, four) in limbs.iter_mut().zip(bytes.chunks_exact(4)) {
             *limb = u32::from_le_bytes(four.try_into().unwrap_or_default());
-            if is_negative {
-                (*limb, carry) = (!*limb).overflowing_add(u32::from(carry));
-            }
         }
-        Wide { is_negative, limbs }
+        Wide {
+            is_negative: false,
+            limbs,
+        }
+    }
+
+    /// Returns the integer that these bytes are in two's complement, the lowest first.
+    pub fn signed(bytes: [u8; 32]) -> Wide {
+        let wide = Wide::unsigned(bytes);
+        if wide.limbs.last().is_none_or(|limb| limb >> 31 == 0) {
+            return wide;
+        }
+        let mut carry = true;
+        let limbs = wide.limbs.map(|limb| {
+            let (negated, carried) = (!limb).overflowing_add(u32::from(carry));
+            carry = carried;
+            negated
+        });
+        Wide {
+            is_negative: true,
+            limbs,
+        }
     }
 }
 
