@@ -106,12 +106,12 @@ impl ValueRef<'_> {
     /// It differs from the JSON of [`Registry::decode_json`](crate::Registry::decode_json) in this:
     ///
     /// - An integer of any width is a number from -(2^53 - 1) to 2^53 - 1, and otherwise a text of
-    ///   its decimal digits, with a minus sign in front if it is negative. In `decode_json` the type
-    ///   decides: integers of 128 bits are texts of decimal digits, those of 256 bits are texts of
-    ///   hexadecimal digits, and all others are numbers.
+    ///   its decimal digits, with a minus sign in front if it is negative. In `decode_json` the
+    ///   type decides: integers of 128 bits are texts of decimal digits, those of 256 bits are
+    ///   texts of hexadecimal digits, and all others are numbers.
     /// - A newtype, which is a composite of one field without a name, is what it holds. In
-    ///   `decode_json` it is an array of that. A tuple of one member and the fields of a variant are
-    ///   arrays in both.
+    ///   `decode_json` it is an array of that. A tuple of one member and the fields of a variant
+    ///   are arrays in both.
     ///
     /// In both, bytes are a text of `0x` and two digits for each, and bits one of `0b` and a digit
     /// for each. This form isn't proved, and doesn't tell a newtype from what it holds.
