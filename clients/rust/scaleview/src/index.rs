@@ -97,9 +97,9 @@ fn split(name: &str) -> (&str, &str) {
 /// Returns the hash of a word and of what follows it.
 #[inline]
 fn hash(seed: u64, word: &str, path: &str) -> u64 {
+    let start = seed ^ last_eight(word.as_bytes());
     let eights = path.as_bytes().chunks_exact(8).map(last_eight);
-    let path = eights.fold(mix(seed, last_eight(path.as_bytes())), mix);
-    mix(path, last_eight(word.as_bytes()))
+    mix(eights.fold(start, mix), last_eight(path.as_bytes()))
 }
 
 /// Returns the last eight bytes as a number.

@@ -30,8 +30,8 @@ pub struct Limits {
 
 /// The most bytes that the library allocates at once for a value and its text.
 ///
-/// What this crate returns comes in addition: a text's bytes, or 32 bytes for each node of a value,
-/// and once for each type of the registry its names.
+/// What this crate keeps comes in addition: a text's bytes, or 32 bytes for each node of a value,
+/// once for each type of the registry its names, and all names of metadata.
 #[derive(Clone, Copy, Debug, Default, PartialEq, Eq, Hash)]
 #[non_exhaustive]
 pub enum Memory {
