@@ -77,6 +77,7 @@ fn an_unknown_type_is_named() {
 
 #[test]
 fn errors_are_told_as_the_command_does() {
+    let [from, to, id] = [0, 1, 13].map(TypeId::new);
     let told = [
         (
             Error::Registry {
@@ -86,18 +87,10 @@ fn errors_are_told_as_the_command_does() {
             "registry: BadOption at 9",
         ),
         (
-            Error::UnknownReference {
-                from: TypeId::new(0),
-                to: TypeId::new(1),
-            },
+            Error::UnknownReference { from, to },
             "check: UnknownType 1 in type 0",
         ),
-        (
-            Error::UnknownType {
-                id: TypeId::new(13),
-            },
-            "type: UnknownType 13",
-        ),
+        (Error::UnknownType { id }, "type: UnknownType 13"),
         (
             value_error(ValueReason::Truncated, 1),
             "value: Truncated at 1",
