@@ -3,13 +3,15 @@
 use crate::ser::has_names;
 use crate::{Error, Serde};
 use scaleview::{Kind, Registry, TypeId, ValueRef};
-use serde::de::value::{SeqDeserializer, StrDeserializer};
+use serde::de::value::{
+    BorrowedStrDeserializer, MapDeserializer, SeqDeserializer, StrDeserializer,
+};
 use serde::de::{
     Deserialize, DeserializeOwned, DeserializeSeed, Deserializer, EnumAccess, Error as _,
     IntoDeserializer, MapAccess, SeqAccess, Unexpected, VariantAccess, Visitor,
 };
 use serde::forward_to_deserialize_any;
-use std::iter::{Enumerate, repeat_n};
+use std::iter::{Enumerate, once, repeat_n};
 
 /// Makes a type of Rust of a value or of a part of one. It may borrow texts and bytes.
 ///
@@ -113,7 +115,8 @@ impl<'de> Deserializer<'de> for Serde<'de> {
             }
             Kind::Fields | Kind::List => Contents(value).deserialize_any(visitor),
             Kind::Variant => visitor.visit_map(Tagged(Some(value))),
-            Kind::Empties(count) => visit_elements(repeat_n((), count as usize), visitor),
+            // A few bytes may stand for billions of elements.
+            Kind::Empties(count) => visitor.visit_map(MapDeserializer::new(once(("count", count)))),
             Kind::Bits(bits) => visit_elements(bits.iter(), visitor),
             _ => visitor.visit_unit(),
         }
@@ -142,6 +145,7 @@ impl<'de> Deserializer<'de> for Serde<'de> {
         match self.0.inner().kind() {
             Kind::Bytes(bytes) => visit_elements(bytes.iter().copied(), visitor),
             Kind::Wide(bytes) => visit_elements(bytes.into_iter(), visitor),
+            Kind::Empties(count) => visit_elements(repeat_n((), count as usize), visitor),
             _ => self.deserialize_any(visitor),
         }
     }
@@ -271,7 +275,7 @@ impl<'de> MapAccess<'de> for Fields<'de> {
         };
         let name = name.unwrap_or_default();
         self.field = Some((name, field));
-        seed.deserialize(serde::de::value::BorrowedStrDeserializer::new(name))
+        seed.deserialize(BorrowedStrDeserializer::new(name))
             .map(Some)
     }
 
@@ -296,7 +300,7 @@ impl<'de> MapAccess<'de> for Tagged<'de> {
         let Some(name) = self.0.and_then(|value| value.variant_name()) else {
             return Ok(None);
         };
-        let name = serde::de::value::BorrowedStrDeserializer::new(name);
+        let name = BorrowedStrDeserializer::new(name);
         seed.deserialize(name).map(Some)
     }
 

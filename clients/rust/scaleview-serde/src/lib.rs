@@ -33,7 +33,8 @@
 //! | a variant | an enum with a variant of that name; `None` and `Some` also an `Option` |
 //! | bytes | `&[u8]`, `Vec<u8>`, `[u8; N]` |
 //! | a text | `&str`, `String` |
-//! | a list, elements of no bytes, or bits | a `Vec` or a tuple; bits are `bool` |
+//! | a list, or bits, which are `bool` | a `Vec`, a tuple |
+//! | elements of no bytes | a `Vec` or a tuple of units, or a map with their `count` |
 //! | the value of a type of no bytes | `()`, a unit struct |
 //!
 //! # How a value is serialized

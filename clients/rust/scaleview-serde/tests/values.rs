@@ -129,6 +129,8 @@ fn leaves_become_types_of_rust() {
     assert_eq!(registry.decode_as(8, &[7; 32]), Ok([7u8; 32]));
     assert_eq!(registry.decode_as(15, b""), Ok(()));
     assert_eq!(registry.decode_as(16, b"\x08"), Ok(vec![(), ()]));
+    let many = registry.decode_as::<serde_json::Value>(16, b"\xfe\xff\xff\xff");
+    assert_eq!(many, Ok(serde_json::json!({ "count": 1_073_741_823 })));
     assert_eq!(registry.decode_as(17, b"\x08\x01\0\x02\0"), Ok((1u8, 2u64)));
     let bits = OpenOptions::new()
         .bits(true)
