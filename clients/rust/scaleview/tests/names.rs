@@ -55,7 +55,7 @@ fn names_are_found_by_their_parts() {
 }
 
 #[test]
-fn unknown_names_are_told() {
+fn unknown_names_are_reported() {
     let chain = small();
     assert_eq!(chain.calls("Other").err(), Some(unknown("calls:Other")));
     assert_eq!(chain.events("Sy").err(), Some(unknown("events:Sy")));
