@@ -1,5 +1,6 @@
-/* What the parts of the extension module share. All functions need the GIL, which also guards all of this data: a module
- * for the limited API isn't loaded by a Python without one. Interpreters that share a GIL have a module each. */
+/* What the parts of the extension module share. Each interpreter has a module with classes and
+ * registries of its own. All functions need the interpreter's lock, which also guards this data: a
+ * module for the limited API isn't loaded by a Python without one. */
 #ifndef NATIVE_H
 #define NATIVE_H
 #define PY_SSIZE_T_CLEAN
@@ -26,10 +27,11 @@ enum {
     NO_INDEX = -1,          /* a Variant that was made without an index */
 };
 
-/* The state of a module: the classes of its interpreter. */
+/* The state of a module: what its interpreter has. */
 struct state {
     PyObject *refused_class, *encode_error_class, *out_of_memory_class, *empties_class, *bits_class;
     PyTypeObject *variant_class, *registry_class, *decoder_class;
+    bool interns; /* names of types are interned */
 };
 
 /* The fields of a composite or of an arm, or the members of a tuple. */
@@ -109,6 +111,33 @@ struct shared {
     /* Sessions of decoders that are gone, which are freed as soon as no call is under way. */
     struct held *dropped;
 };
+
+#if PY_VERSION_HEX < 0x030c0000
+/* The headers before 3.12 count the references of all objects. Since 3.12 interpreters with locks of
+ * their own share some, whose counts are negative as 32 bits, and which nobody may write. */
+static inline bool is_immortal(const PyObject *object) {
+    return (int32_t)object->ob_refcnt < 0;
+}
+
+static inline void count_reference(PyObject *object) {
+    if (!is_immortal(object)) object->ob_refcnt++;
+}
+
+static inline void drop_reference(PyObject *object) {
+    if (!is_immortal(object) && --object->ob_refcnt == 0) _Py_Dealloc(object);
+}
+
+static inline void drop_any_reference(PyObject *object) {
+    if (object) drop_reference(object);
+}
+
+#undef Py_INCREF
+#undef Py_DECREF
+#undef Py_XDECREF
+#define Py_INCREF(object) count_reference((PyObject *)(object))
+#define Py_DECREF(object) drop_reference((PyObject *)(object))
+#define Py_XDECREF(object) drop_any_reference((PyObject *)(object))
+#endif
 
 static inline PyObject *new_ref(PyObject *object) {
     Py_INCREF(object);
@@ -191,7 +220,7 @@ PyObject *bytes_of(PyObject *data, const uint8_t **bytes, size_t *length);
 
 /* types.c: what a registry says about its types. */
 extern const char *const primitive_names[15];
-int choose_interning(void);
+int choose_interning(struct state *state);
 const struct type_info *info_of(struct shared *shared, uint32_t type);
 void free_info(struct type_info *info);
 PyObject *shape_tuple(struct shared *shared, uint32_t type);
@@ -230,6 +259,7 @@ int make_decoder_class(PyObject *module);
 struct shared *shared_of(PyObject *registry);
 
 /* module.c: the module and its state. */
+long version_of_python(void);
 PyObject *module_of(PyTypeObject *class);
 int add_class(PyObject *module, PyTypeObject **made, PyType_Spec *spec, const char *name);
 

@@ -5,6 +5,7 @@
 
 enum { SHALLOW = 64, DEEP_STACK = 1 << 21 };
 
+/* All interpreters read it, and it only changes while the process has one thread. */
 static unsigned forks;
 
 /* A child process begins, whose one thread makes no call. */

@@ -1356,6 +1356,11 @@ checks = [
 os.write(1, b"%d of %d, " % (checks.count(True), len(checks)))
 """
 
+    def used_data(self) -> str:
+        """The checks, with the registry that they use."""
+        arms = make.variant(("End", 0, ()), ("Next", 1, ((None, 0),)))
+        return f"DATA = {make.registry_of(arms, make.sequence(2), make.members())!r}\n{self.USE}"
+
     def run_program(self, program: str) -> str:
         command = [sys.executable, "-W", "ignore", "-c", self.BEGIN + program]
         ended = subprocess.run(command, stdout=subprocess.PIPE, stderr=subprocess.PIPE, universal_newlines=True)
@@ -1364,10 +1369,8 @@ os.write(1, b"%d of %d, " % (checks.count(True), len(checks)))
 
     def test_each_interpreter_has_its_own_classes(self) -> None:
         """In the first one, twice in each of two others, and in the first one after the others have ended."""
-        data = make.registry_of(make.variant(("End", 0, ()), ("Next", 1, ((None, 0),))), make.sequence(2), make.members())
-        use = f"DATA = {data!r}\n{self.USE}"
         program = (
-            f"use = {use!r}\n"
+            f"use = {self.used_data()!r}\n"
             "exec(use)\n"
             "others = [create(False), create(False)]\n"
             "for other in others * 2: interpreters.run_string(other, use)\n"
@@ -1377,14 +1380,21 @@ os.write(1, b"%d of %d, " % (checks.count(True), len(checks)))
         self.assertEqual(self.run_program(program), "9 of 9, " * 6)
 
     @unittest.skipIf(sys.version_info < (3, 12), "all interpreters share a lock before 3.12")
-    def test_an_interpreter_with_its_own_lock_does_not_import_it(self) -> None:
-        use = (
-            "import os\n"
-            "try: import scaleview\n"
-            "except ImportError as error: os.write(1, str(error).encode())\n"
+    def test_interpreters_with_locks_of_their_own_run_at_once(self) -> None:
+        """Each imports it by itself, and decodes in a thread while the others do."""
+        program = (
+            "import threading\n"
+            f"use = {self.used_data()!r}\n"
+            "others = [create(True) for _ in range(4)]\n"
+            "def run(other):\n"
+            "    for _ in range(20): interpreters.run_string(other, use)\n"
+            "threads = [threading.Thread(target=run, args=(other,)) for other in others]\n"
+            "for thread in threads: thread.start()\n"
+            "for thread in threads: thread.join()\n"
+            "for other in others: interpreters.destroy(other)\n"
+            "exec(use)\n"
         )
-        message = "module scaleview._native does not support loading in subinterpreters"
-        self.assertEqual(self.run_program(f"interpreters.run_string(create(True), {use!r})\n"), message)
+        self.assertEqual(self.run_program(program), "9 of 9, " * 81)
 
 
 class Program(unittest.TestCase):
