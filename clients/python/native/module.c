@@ -24,9 +24,10 @@ PyObject *module_of(PyTypeObject *class) {
     return NULL;
 }
 
-/* Makes a class, and adds it to the module and its state. */
-int add_class(PyObject *module, PyTypeObject **made, PyType_Spec *spec, const char *name) {
-    *made = (PyTypeObject *)PyType_FromSpec(spec);
+/* Makes a class, of these bases if there are some, and adds it to the module and its state. */
+int add_class(PyObject *module, PyTypeObject **made, PyType_Spec *spec, PyObject *bases,
+              const char *name) {
+    *made = (PyTypeObject *)PyType_FromSpecWithBases(spec, bases);
     if (!*made || PyObject_SetAttrString((PyObject *)*made, "__native__", module) < 0) return -1;
     Py_INCREF(*made);
     return PyModule_AddObject(module, name, (PyObject *)*made);
@@ -71,7 +72,9 @@ static int check_version(void) {
 static int execute(PyObject *module) {
     struct state *state = state_of(module);
     if (check_version() < 0 || choose_interning(state) < 0 || import_classes(state) < 0) return -1;
-    if (make_variant_class(module) < 0 || make_registry_class(module) < 0 || make_decoder_class(module) < 0) return -1;
+    if (make_variant_class(module) < 0 || make_registry_class(module) < 0) return -1;
+    if (make_metadata_class(module) < 0 || make_type_class(module) < 0) return -1;
+    if (make_decoder_class(module) < 0) return -1;
     if (PyModule_AddIntConstant(module, "DEPTH", DEPTH) < 0 || PyModule_AddIntConstant(module, "LIMIT", LIMIT) < 0) return -1;
     return PyModule_AddIntConstant(module, "LIBRARY_VERSION", SCALEVIEW_VERSION);
 }
@@ -81,12 +84,15 @@ static int traverse(PyObject *module, visitproc visit, void *arg) {
     const struct state *state = state_of(module);
     if (!state) return 0;
     Py_VISIT(state->refused_class);
+    Py_VISIT(state->unknown_name_class);
     Py_VISIT(state->encode_error_class);
     Py_VISIT(state->out_of_memory_class);
     Py_VISIT(state->empties_class);
     Py_VISIT(state->bits_class);
     Py_VISIT(state->variant_class);
     Py_VISIT(state->registry_class);
+    Py_VISIT(state->metadata_class);
+    Py_VISIT(state->type_class);
     Py_VISIT(state->decoder_class);
     return 0;
 }
@@ -95,12 +101,15 @@ static int clear(PyObject *module) {
     struct state *state = state_of(module);
     if (!state) return 0;
     Py_CLEAR(state->refused_class);
+    Py_CLEAR(state->unknown_name_class);
     Py_CLEAR(state->encode_error_class);
     Py_CLEAR(state->out_of_memory_class);
     Py_CLEAR(state->empties_class);
     Py_CLEAR(state->bits_class);
     Py_CLEAR(state->variant_class);
     Py_CLEAR(state->registry_class);
+    Py_CLEAR(state->metadata_class);
+    Py_CLEAR(state->type_class);
     Py_CLEAR(state->decoder_class);
     return 0;
 }
