@@ -43,7 +43,8 @@ NAMED_CHAIN = make.registry_of(make.variant(("End", 0, ()), ("Next", 1, (("rest"
 
 def load_tests(loader: Any, tests: unittest.TestSuite, pattern: Any) -> unittest.TestSuite:
     tests.addTests(doctest.DocTestSuite(scaleview))
-    tests.addTests(doctest.DocTestSuite(scaleview._base))
+    for module in (scaleview._base, scaleview._json):
+        tests.addTests(doctest.DocTestSuite(module))
     folder = os.getcwd()
     readme = doctest.DocFileSuite(
         str(CLIENT / "README.md"),

@@ -34,6 +34,7 @@ except ImportError as error:
         f"scaleview can't be loaded: install it by `pip install ./clients/python` ({error})"
     ) from error
 from ._base import Bits, Empties, EncodeError, OutOfMemory, Refused, UnknownName
+from ._json import json_default, to_json_for_browsers
 from ._metadata import Metadata, Method, Named, StorageEntry
 from ._native import DEPTH, LIMIT, Decoder, Variant
 from ._registry import Arm, Field, Registry, Type
@@ -56,6 +57,8 @@ __all__ = [
     "UnknownName",
     "EncodeError",
     "OutOfMemory",
+    "to_json_for_browsers",
+    "json_default",
     "DEPTH",
     "LIMIT",
 ]
