@@ -19,6 +19,7 @@ import subprocess
 import sys
 import tempfile
 import time
+import tracemalloc
 import unittest
 import weakref
 import zipfile
@@ -825,6 +826,32 @@ class Encoding(unittest.TestCase):
         folder = str(pathlib.Path(__file__).parent)
         ended = subprocess.run(command, cwd=folder, stdout=subprocess.PIPE, universal_newlines=True)
         self.assertEqual(ended.stdout, "an allocation failed\n")
+
+    def test_objects_take_up_to_twelve_times_the_bound(self) -> None:
+        """An arm of one named field, whose objects are the largest for a node."""
+        arms = make.variant(("End", 0, ()), ("N", 1, (("a", 0),)))
+        registry = Registry(make.registry_of(arms, make.sequence(0)))
+        data = make.compact(2000) + (b"\1" * 30 + b"\0") * 2000
+
+        def is_enough(memory: int) -> bool:
+            try:
+                Decoder(registry, 1, memory=memory).feed(data)
+            except OutOfMemory:
+                return False
+            return True
+
+        low, high = 1, 1 << 24
+        while low < high:
+            middle = (low + high) // 2
+            low, high = (low, middle) if is_enough(middle) else (middle + 1, high)
+        tracemalloc.start()
+        value = registry.decode(1, data)
+        taken, _ = tracemalloc.get_traced_memory()
+        tracemalloc.stop()
+        self.assertEqual(len(value), 2000)
+        self.assertGreater(taken, 8 * low)
+        self.assertLess(taken, 12 * low)
+        self.assertIn("up to twelve times as much", (CLIENT / "README.md").read_text())
 
     def test_a_budget_of_memory_is_set_where_none_is_given(self) -> None:
         empties = [(None, 0)] * 50_000
