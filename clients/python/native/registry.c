@@ -170,7 +170,8 @@ static PyObject *registry_shape(PyObject *self, PyObject *number) {
     return describe(self, number, shape_tuple);
 }
 
-static PyObject *registry_fields(PyObject *self, PyObject *number) {
+/* It isn't named `_fields`, by which `help` knows a named tuple, whose private names it lists. */
+static PyObject *registry_parts(PyObject *self, PyObject *number) {
     return describe(self, number, fields_list);
 }
 
@@ -326,7 +327,7 @@ static PyMethodDef methods[] = {
      "Its decoders stay usable, and its memory is freed with the last of them. A registry that is dropped is\n"
      "closed as well."},
     {"_shape", registry_shape, METH_O, NULL},
-    {"_fields", registry_fields, METH_O, NULL},
+    {"_parts", registry_parts, METH_O, NULL},
     {"_arms", registry_arms, METH_O, NULL},
     {"_path", registry_path, METH_O, NULL},
     {"_line", registry_line, METH_O, NULL},

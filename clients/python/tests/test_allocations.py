@@ -55,7 +55,7 @@ class Allocations(unittest.TestCase):
             opened = Registry(data)
             for type_id in range(13):
                 opened._path(type_id), opened._shape(type_id), opened._line(type_id), opened._find("Option")
-                opened._fields(type_id), opened._arms(type_id)
+                opened._parts(type_id), opened._arms(type_id)
 
         def there_and_back() -> None:
             for type_id, number in numbers:

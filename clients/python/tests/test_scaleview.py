@@ -13,6 +13,7 @@ import mmap
 import os
 import pathlib
 import pickle
+import pydoc
 import re
 import shutil
 import subprocess
@@ -1284,6 +1285,7 @@ class Types(unittest.TestCase):
         for name in ("id", "registry"):
             with self.assertRaises(AttributeError):
                 setattr(found, name, 5)
+        self.assertEqual([copy.copy(found), copy.deepcopy(found)], [found] * 2)
         registry.close()
         for call in (lambda: found.decode(data), lambda: found.encode(b"")):
             with self.assertRaisesRegex(ValueError, "^the registry is closed$"):
@@ -1342,6 +1344,12 @@ class Stubs(unittest.TestCase):
             self.assertEqual({name for name in there if not name.startswith("__")} - stubbed, set())
         for name in scaleview.__all__:
             self.assertTrue(getattr(scaleview, name))
+
+    def test_help_lists_no_private_names(self) -> None:
+        for shown in (Registry, scaleview.Metadata, Type, Decoder, Bits):
+            text = pydoc.plain(pydoc.render_doc(shown))
+            self.assertIn(shown.__name__, text)
+            self.assertEqual(re.findall(r"(?m)^ \|  (_[a-z]\w*)", text), [])
 
     def test_stubs_tell_which_classes_are_final(self) -> None:
         stub = ast.parse((pathlib.Path(scaleview.__file__).parent / "_native.pyi").read_text())

@@ -55,8 +55,7 @@ class Named(Type):
 
         Raises:
             Refused: The metadata has none, or the bytes are rejected, with the reason and the place
-            in
-                them.
+                in them.
             OutOfMemory: An allocation failed, or would have exceeded the bound of `decode`.
         """
         return self.decode(self.data)
@@ -104,8 +103,9 @@ class Method(NamedTuple):
 class Names(Mapping[str, _V]):
     """What metadata names by one word and a colon, by the rest of each name.
 
-    An unknown name raises `UnknownName`, which is a KeyError as well. Nothing is kept: each value
-    is made when it is asked for, and the names are read anew by each iteration. """
+    An unknown name raises `UnknownName`, which is a KeyError as well. Each value is made when it is
+    asked for, and the names are read anew by each iteration.
+    """
 
     __slots__ = ("_metadata",)
 

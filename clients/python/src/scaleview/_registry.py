@@ -30,6 +30,7 @@ else:
     Data = Any
 
 _R = TypeVar("_R", bound="Registry")
+_T = TypeVar("_T", bound="Type")
 
 # In a child process no call of the parent's threads is under way.
 os.register_at_fork(after_in_child=_native._after_fork)
@@ -84,7 +85,7 @@ class Type(_native.Type):
     @property
     def fields(self) -> List[Field]:
         """The fields of a composite or the members of a tuple, and else an empty list."""
-        return _fields(self.registry._fields(self.id))
+        return _fields(self.registry._parts(self.id))
 
     @property
     def variants(self) -> List[Arm]:
@@ -115,6 +116,12 @@ class Type(_native.Type):
 
     def __hash__(self) -> int:
         return hash((id(self.registry), self.id))
+
+    def __copy__(self: _T) -> _T:
+        return self
+
+    def __deepcopy__(self: _T, memo: object) -> _T:
+        return self
 
     def __str__(self) -> str:
         """Returns its position, class, kind and path, as the command prints them."""
@@ -209,12 +216,9 @@ class Registry(_native.Registry):
             Refused: The registry has no such type.
         """
         self._shape(element)
-        return [Type(self, at) for at in range(self._count) if self._is_sequence_of(at,
-        int(element))]
-
-    def _is_sequence_of(self, type_id: int, element: int) -> bool:
-        shape = self._shape(type_id)
-        return shape[0] == "sequence" and shape[2] == element
+        wanted = ("sequence", int(element))
+        shapes = ((at, self._shape(at)) for at in range(self._count))
+        return [Type(self, at) for at, shape in shapes if (shape[0], shape[2]) == wanted]
 
     def __repr__(self) -> str:
         if self.closed:
