@@ -75,7 +75,7 @@ static int expected(const struct writer *writer, const char *what, PyObject *val
 static int check_budget(const struct writer *writer, size_t nodes, size_t bytes) {
     uint64_t least = LEAST_MEMORY_OF_A_NODE * ((uint64_t)writer->count + nodes) + writer->length + bytes;
     if (writer->memory == 0 || least <= writer->memory) return 0;
-    raise_out_of_memory(writer->shared->state, writer->memory);
+    raise_over_budget(writer->shared->state, writer->memory);
     return -1;
 }
 

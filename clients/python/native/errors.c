@@ -50,6 +50,12 @@ void raise_out_of_memory(const struct state *state, uint64_t memory) {
                      "the budget of %llu bytes of memory is reached, or an allocation failed", (unsigned long long)memory);
 }
 
+/* Raises that a call would exceed this budget. */
+void raise_over_budget(const struct state *state, uint64_t memory) {
+    PyErr_Format(state->out_of_memory_class, "the budget of %llu bytes of memory is reached",
+                 (unsigned long long)memory);
+}
+
 static void raise_refused(const struct state *state, const scaleview_answer *answer, const char *part, uint32_t type,
                           Py_ssize_t item) {
     uint32_t code = answer->code;

@@ -243,6 +243,7 @@ void raise_name(const struct state *state, const scaleview_answer *answer, PyObj
 int fail_input(const struct input *input, const scaleview_answer *answer);
 void raise_rejected_node(const struct state *state, const scaleview_answer *answer, PyObject *path);
 void raise_out_of_memory(const struct state *state, uint64_t memory);
+void raise_over_budget(const struct state *state, uint64_t memory);
 PyObject *reason_of(uint32_t code);
 
 /* arguments.c: numbers, types, limits and bytes. */

@@ -776,7 +776,8 @@ class Encoding(unittest.TestCase):
             decoder.finish,
             decoder.finish_json,
         ]
-        message = "^the budget of 1000 bytes of memory is reached, or an allocation failed$"
+        # Only `encode` knows by itself which of the two it was.
+        message = "^the budget of 1000 bytes of memory is reached(, or an allocation failed)?$"
         for call in calls:
             with self.assertRaisesRegex(OutOfMemory, message):
                 call()
@@ -796,7 +797,8 @@ class Encoding(unittest.TestCase):
 
         for value in (range(10**7), Long()):
             for type_id in (1, 3):
-                with self.assertRaisesRegex(OutOfMemory, "^the budget of 1000 bytes"):
+                message = "^the budget of 1000 bytes of memory is reached$"
+                with self.assertRaisesRegex(OutOfMemory, message):
                     registry.encode(type_id, value, memory=1000)
         self.assertEqual(taken, [])
         with self.assertRaisesRegex(OutOfMemory, "^the budget of"):
