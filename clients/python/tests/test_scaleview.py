@@ -1688,6 +1688,12 @@ class Building(unittest.TestCase):
         version = scaleview._native.LIBRARY_VERSION
         self.assertIn(f"built with the header 654321 and the library {version}: run `bash clients/build`", line)
 
+    def test_formats_have_no_lengths(self) -> None:
+        """What the headers of Python 3.13 make of them doesn't run in older versions."""
+        for path in sorted((CLIENT / "native").glob("*.c")):
+            code = re.sub(r"(?m)^#.*", "", path.read_text())
+            self.assertNotRegex(code, r"\"[^\"\n]*#[^\"\n]*\"", path.name)
+
     def test_versions_agree(self) -> None:
         self.assertIn(f'version = "{scaleview.__version__}"', (CLIENT / "pyproject.toml").read_text())
         self.assertIn(f'"{scaleview.__version__}"', (CLIENT / "build_backend.py").read_text())
