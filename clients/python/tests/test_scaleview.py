@@ -1065,8 +1065,10 @@ class Arguments(unittest.TestCase):
         def prefix(data: Any) -> Any:
             return registry.decode_prefix(0, data)
 
+        calls: list[Callable[[Any], object]] = [
+            Registry, Registry.raw, decode, prefix, decoder.feed, registry.types[0].decode,
+        ]
         for wrong in (None, 2, [2, 0]):
-            calls = Registry, Registry.raw, decode, prefix, decoder.feed, registry.types[0].decode
             for call in calls:
                 with self.assertRaisesRegex(TypeError, f"^expected bytes .* not {type(wrong).__name__}$"):
                     call(wrong)
