@@ -4,6 +4,8 @@
 - `json.loads` of the text that `decode_json` makes, which is there beforehand;
 - decoders by hand with `struct`: one for accounts, and one that turns the types of a registry into closures.
 
+Then it compares values of a chain by the position of their type and by their name.
+
     PYTHONPATH=clients/out/python python3 clients/python/bench.py
 """
 
@@ -13,9 +15,9 @@ import json
 import pathlib
 import struct
 import timeit
-from typing import Any, Callable, Dict, List, Tuple
+from typing import Any, Callable, Dict, Iterator, List, Tuple
 
-from scaleview import Arm, Field, Registry, Type, Variant
+from scaleview import Arm, Field, Metadata, Registry, Type, Variant
 
 EXAMPLES = pathlib.Path(__file__).resolve().parents[2] / "examples"
 ACCOUNT = struct.Struct("<IIIIQQQQQQQQ")
@@ -156,12 +158,57 @@ def rows(folder: str, name: str) -> List[Tuple[str, float]]:
     return [*times, ("decode_many, each", microseconds(lambda: registry.decode_many(type_id, many)) / len(many))]
 
 
+def show_rows(times: List[Tuple[str, float]]) -> None:
+    for what, time in times:
+        print(f"  {what:24}{time:10.2f}")
+
+
+def side_by_side(calls: Dict[str, Callable[[], object]]) -> List[Tuple[str, float]]:
+    """The best time of each call, taken in turns, since the machine's speed changes meanwhile."""
+    timers = {what: timeit.Timer(call) for what, call in calls.items()}
+    number = max(1, next(iter(timers.values())).autorange()[0] // 20)
+    best = {what: float("inf") for what in calls}
+    for _ in range(200):
+        for what, timer in timers.items():
+            best[what] = min(best[what], timer.timeit(number) / number * 1e6)
+    return list(best.items())
+
+
+def named_rows() -> Iterator[Tuple[str, List[Tuple[str, float]]]]:
+    metadata = Metadata((EXAMPLES / "chain" / "chain.metadata").read_bytes())
+    account, events = metadata.storage["System.Account"], metadata.storage["System.Events"]
+    extrinsic = metadata.type_of("extrinsic")
+    stored = (EXAMPLES / "runtime" / "account_info.scale").read_bytes()
+    block = (EXAMPLES / "runtime" / "events_block.scale").read_bytes()
+    transfer = (EXAMPLES / "chain" / "transfer.scale").read_bytes()
+    position = int(account)
+    yield "an account", side_by_side({
+        "by position": lambda: metadata.decode(position, stored),
+        "by its entry": lambda: account.decode(stored),
+        "looked up each time": lambda: metadata.storage["System.Account"].decode(stored),
+    })
+    event_type = int(events)
+    yield "a block's events", side_by_side({
+        "by position": lambda: metadata.decode(event_type, block),
+        "by its entry": lambda: events.decode(block),
+        "events": lambda: metadata.events(block),
+    })
+    extrinsic_type = int(extrinsic)
+    yield "an extrinsic", side_by_side({
+        "by position": lambda: metadata.decode(extrinsic_type, transfer, opaque=True),
+        "by its type": lambda: extrinsic.decode(transfer, opaque=True),
+        "extrinsic": lambda: metadata.extrinsic(transfer),
+    })
+
+
 def main() -> None:
     for folder, name in (("account", "account"), ("runtime", "events_block")):
         size = (EXAMPLES / folder / f"{name}.scale").stat().st_size
         print(f"{folder}/{name}, {size} bytes")
-        for what, time in rows(folder, name):
-            print(f"  {what:24}{time:10.2f}")
+        show_rows(rows(folder, name))
+    for what, named in named_rows():
+        print(what)
+        show_rows(named)
 
 
 if __name__ == "__main__":

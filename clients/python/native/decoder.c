@@ -12,28 +12,37 @@ struct decoder {
     uint64_t memory; /* the budget, or 0 for none */
 };
 
-static PyObject *decoder_new(PyTypeObject *class, PyObject *args, PyObject *keywords) {
-    static char *names[] = {"registry", "type", "depth", "limit", "memory", NULL};
-    PyObject *registry, *type_object, *depth = NULL, *limit = NULL, *memory = NULL;
-    struct call call = {0};
-    PyObject *module = module_of(class);
-    if (!module) return NULL;
-    int is_read = PyArg_ParseTupleAndKeywords(args, keywords, "O!O|$OOO:Decoder", names, state_of(module)->registry_class,
-                                              &registry, &type_object, &depth, &limit, &memory);
-    Py_DECREF(module);
-    if (!is_read) return NULL;
-    if (read_type(registry, type_object, &call.type) < 0) return NULL;
-    if (read_limits(depth, limit, memory, &call.limits) < 0) return NULL;
-    struct decoder *self = (struct decoder *)PyType_GenericAlloc(class, 0);
-    if (!self) return NULL;
+/* Starts the session of a decoder, whose registry this is. */
+static int start(struct decoder *self, PyObject *registry, const struct arguments *given) {
+    struct call call = {.shared = shared_of(registry)};
+    self->shared = call.shared;
+    if (!call.shared) return -1;
+    if (read_type(call.shared->state, registry, given->type, &call.type) < 0) return -1;
+    if (read_limits(given->depth, given->limit, given->memory, &call.limits) < 0) return -1;
     self->type = call.type;
     self->depth = call.limits.depth;
     self->memory = budget_of(&call.limits, call.limits.limit);
-    self->shared = call.shared = shared_of(registry);
-    self->held = call.shared ? start_session(&call, self->memory, -1) : NULL;
-    if (self->held) return (PyObject *)self;
-    Py_DECREF(self);
-    return NULL;
+    self->held = start_session(&call, self->memory, -1);
+    return self->held ? 0 : -1;
+}
+
+static PyObject *decoder_new(PyTypeObject *class, PyObject *args, PyObject *keywords) {
+    static char *names[] = {"registry", "type", "depth", "limit", "memory", NULL};
+    struct arguments given = {0};
+    PyObject *registry, *module = module_of(class);
+    if (!module) return NULL;
+    PyTypeObject *owner = state_of(module)->registry_class;
+    int is_read = PyArg_ParseTupleAndKeywords(args, keywords, "O!O|$OOO:Decoder", names, owner,
+                                              &registry, &given.type, &given.depth, &given.limit,
+                                              &given.memory);
+    Py_DECREF(module);
+    if (!is_read) return NULL;
+    struct decoder *self = (struct decoder *)PyType_GenericAlloc(class, 0);
+    if (self && start(self, registry, &given) < 0) {
+        Py_DECREF(self);
+        return NULL;
+    }
+    return (PyObject *)self;
 }
 
 /* Frees the session, after the calls under way if there are some. */
@@ -272,5 +281,5 @@ static PyType_Slot slots[] = {
 static PyType_Spec spec = {"scaleview.Decoder", sizeof(struct decoder), 0, Py_TPFLAGS_DEFAULT, slots};
 
 int make_decoder_class(PyObject *module) {
-    return add_class(module, &state_of(module)->decoder_class, &spec, "Decoder");
+    return add_class(module, &state_of(module)->decoder_class, &spec, NULL, "Decoder");
 }

@@ -75,7 +75,7 @@ static int expected(const struct writer *writer, const char *what, PyObject *val
 static int check_budget(const struct writer *writer, size_t nodes, size_t bytes) {
     uint64_t least = LEAST_MEMORY_OF_A_NODE * ((uint64_t)writer->count + nodes) + writer->length + bytes;
     if (writer->memory == 0 || least <= writer->memory) return 0;
-    raise_out_of_memory(writer->shared->state, writer->memory);
+    raise_over_budget(writer->shared->state, writer->memory);
     return -1;
 }
 
@@ -623,17 +623,19 @@ static PyObject *bytes_of_nodes(struct writer *writer, uint32_t type, uint16_t d
     return made;
 }
 
-/* Returns the bytes of a value. */
-PyObject *encode_value(struct shared *shared, uint32_t type, PyObject *value, const struct limits *limits) {
+/* Returns the bytes of a call's value. */
+PyObject *encode_value(const struct call *call) {
+    const struct limits *limits = &call->limits;
     struct writer writer;
     PyObject *made = NULL;
     memset(&writer, 0, offsetof(struct writer, few));
-    writer.shared = shared;
+    writer.shared = call->shared;
     writer.levels = writer.few;
     writer.level_room = FEW;
     writer.most_depth = limits->depth;
     writer.memory = budget_of(limits, LIMIT);
-    if (put_all(&writer, type, value) == 0) made = bytes_of_nodes(&writer, type, limits->depth);
+    if (put_all(&writer, call->type, call->value) == 0)
+        made = bytes_of_nodes(&writer, call->type, limits->depth);
     drop_levels(&writer);
     if (writer.levels != writer.few) free(writer.levels);
     free(writer.nodes);

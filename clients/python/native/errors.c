@@ -1,16 +1,18 @@
-/* Exceptions, numbers and buffers. */
+/* Exceptions. */
 #include "native.h"
 
 int import_classes(struct state *state) {
     PyObject *module = PyImport_ImportModule("scaleview._base");
     if (!module) return -1;
     state->refused_class = PyObject_GetAttrString(module, "Refused");
+    state->unknown_name_class = PyObject_GetAttrString(module, "UnknownName");
     state->encode_error_class = PyObject_GetAttrString(module, "EncodeError");
     state->out_of_memory_class = PyObject_GetAttrString(module, "OutOfMemory");
     state->empties_class = PyObject_GetAttrString(module, "Empties");
     state->bits_class = PyObject_GetAttrString(module, "Bits");
     Py_DECREF(module);
-    bool has_errors = state->refused_class && state->encode_error_class && state->out_of_memory_class;
+    bool has_refusals = state->refused_class && state->unknown_name_class;
+    bool has_errors = has_refusals && state->encode_error_class && state->out_of_memory_class;
     return has_errors && state->empties_class && state->bits_class ? 0 : -1;
 }
 
@@ -48,6 +50,12 @@ void raise_out_of_memory(const struct state *state, uint64_t memory) {
                      "the budget of %llu bytes of memory is reached, or an allocation failed", (unsigned long long)memory);
 }
 
+/* Raises that a call would exceed this budget. */
+void raise_over_budget(const struct state *state, uint64_t memory) {
+    PyErr_Format(state->out_of_memory_class, "the budget of %llu bytes of memory is reached",
+                 (unsigned long long)memory);
+}
+
 static void raise_refused(const struct state *state, const scaleview_answer *answer, const char *part, uint32_t type,
                           Py_ssize_t item) {
     uint32_t code = answer->code;
@@ -70,20 +78,35 @@ void raise_answer(const struct state *state, const scaleview_answer *answer, uin
         raise_refused(state, answer, part_of(answer->code), type, item);
 }
 
-/* Raises what the opening of a registry answered. A value's codes are then about what follows it in metadata. */
-void raise_unopened(const struct state *state, const scaleview_answer *answer) {
+/* Raises what the opening of a registry answered, whose bytes stand after so many others. A value's
+ * codes are then about what follows it in metadata. */
+void raise_unopened(const struct state *state, const scaleview_answer *answer, uint64_t before) {
+    scaleview_answer placed = *answer;
     uint32_t code = answer->code;
-    if (code == SCALEVIEW_MEMORY)
+    if (code == SCALEVIEW_MEMORY) {
         raise_out_of_memory(state, 0);
-    else
-        raise_refused(state, answer, code >= SCALEVIEW_VALUE_TRUNCATED ? "registry" : part_of(code), 0, -1);
+        return;
+    }
+    if (code != SCALEVIEW_REGISTRY_UNKNOWN_REFERENCE) placed.at += before;
+    const char *part = code >= SCALEVIEW_VALUE_TRUNCATED ? "registry" : part_of(code);
+    raise_refused(state, &placed, part, 0, -1);
+}
+
+/* Raises that text doesn't spell bytes, for a reason of the package's, at this character. */
+void raise_wrong_text(const struct whose *whose, const char *reason, size_t place) {
+    PyObject *item = number_or_none(whose->item >= 0, (unsigned long long)whose->item);
+    raise_new(whose->state->refused_class,
+              Py_BuildValue("(IssnOON)", NO_CODE, reason, whose->part, (Py_ssize_t)place, Py_None,
+                            Py_None, item));
 }
 
 /* Raises that the metadata doesn't have a name, or no bytes for it. */
 void raise_name(const struct state *state, const scaleview_answer *answer, PyObject *name) {
     uint32_t code = answer->code;
-    raise_new(state->refused_class, Py_BuildValue("(INsOOOOO)", code, reason_of(code), part_of(code), Py_None, Py_None,
-                                                  Py_None, Py_None, name));
+    bool is_unknown = code == SCALEVIEW_UNKNOWN_NAME;
+    raise_new(is_unknown ? state->unknown_name_class : state->refused_class,
+              Py_BuildValue("(INsOOOOO)", code, reason_of(code), part_of(code), Py_None, Py_None,
+                            Py_None, Py_None, name));
 }
 
 /* Raises what a call on an input answered. */
@@ -98,93 +121,4 @@ int fail_input(const struct input *input, const scaleview_answer *answer) {
 void raise_rejected_node(const struct state *state, const scaleview_answer *answer, PyObject *path) {
     raise_new(state->encode_error_class, Py_BuildValue("(INON)", answer->code, reason_of(answer->code), path,
                                                        PyLong_FromUnsignedLongLong(answer->at)));
-}
-
-/* Reads a number from 0 to the greatest. */
-int read_number(const char *name, PyObject *object, uint64_t most, uint64_t *number) {
-    PyObject *index = PyNumber_Index(object);
-    if (!index) return -1;
-    *number = PyLong_AsUnsignedLongLong(index);
-    Py_DECREF(index);
-    bool has_failed = *number == UINT64_MAX && PyErr_Occurred();
-    if (has_failed && !PyErr_ExceptionMatches(PyExc_OverflowError)) return -1;
-    if (!has_failed && *number <= most) return 0;
-    PyErr_Clear();
-    PyErr_Format(PyExc_OverflowError, "%s is out of range: it has to be in 0 to %llu", name, (unsigned long long)most);
-    return -1;
-}
-
-/* Raises that this names no type. */
-static int fail_type(PyObject *object) {
-    PyObject *class = PyObject_GetAttrString((PyObject *)Py_TYPE(object), "__name__");
-    static const char by_text[] = "; find() gives the type of a path, and type_of() of a Metadata that of a name";
-    const char *hint = PyUnicode_Check(object) ? by_text : "";
-    if (class) PyErr_Format(PyExc_TypeError, "a type is its position or a Type, not %R%s", class, hint);
-    Py_XDECREF(class);
-    return -1;
-}
-
-/* Reads a type's position from an int, or from a Type of this registry. */
-int read_type(PyObject *registry, PyObject *object, uint32_t *type) {
-    uint64_t number;
-    if (PyBool_Check(object) || !PyIndex_Check(object)) return fail_type(object);
-    if (!PyLong_Check(object)) {
-        PyObject *owner = PyObject_GetAttrString(object, "registry");
-        bool is_other = owner && owner != registry;
-        Py_XDECREF(owner);
-        if (is_other) {
-            PyErr_SetString(PyExc_ValueError, "the type belongs to another registry");
-            return -1;
-        }
-        PyErr_Clear();
-    }
-    if (read_number("type", object, UINT32_MAX, &number) < 0) return -1;
-    *type = (uint32_t)number;
-    return 0;
-}
-
-/* Reads the limits of a call; NULL stands for the usual one, and so does `...` as `memory`. */
-int read_limits(PyObject *depth, PyObject *limit, PyObject *memory, struct limits *limits) {
-    uint64_t number = DEPTH;
-    *limits = (struct limits){DEPTH, memory && memory != Py_Ellipsis, LIMIT, 0};
-    if (depth && read_number("depth", depth, MOST_DEPTH, &number) < 0) return -1;
-    limits->depth = (uint16_t)number;
-    if (limit && read_number("limit", limit, UINT64_MAX, &limits->limit) < 0) return -1;
-    bool is_number = limits->has_memory && memory != Py_None;
-    return is_number ? read_number("memory", memory, UINT64_MAX, &limits->memory) : 0;
-}
-
-/* Returns the budget of memory for an input of this many bytes, or 0 for none. An input above the greatest limit is rejected
- * whatever its budget is. */
-uint64_t budget_of(const struct limits *limits, uint64_t length) {
-    return limits->has_memory ? limits->memory : MEMORY + MEMORY_OF_A_BYTE * length;
-}
-
-/* Returns a memoryview of a buffer. */
-PyObject *view_of(PyObject *data) {
-    PyObject *view = PyMemoryView_FromObject(data);
-    if (view || !PyErr_ExceptionMatches(PyExc_TypeError)) return view;
-    PyErr_Clear();
-    PyObject *class = PyObject_GetAttrString((PyObject *)Py_TYPE(data), "__name__");
-    if (class) PyErr_Format(PyExc_TypeError, "expected bytes or another object with a buffer, not %U", class);
-    Py_XDECREF(class);
-    return NULL;
-}
-
-/* Returns an object that keeps the bytes of a buffer, and where they are. Bytes stay where they are, also a subclass's,
- * whose own `__len__` isn't asked. Others are copied, since they may change during a call. */
-PyObject *bytes_of(PyObject *data, const uint8_t **bytes, size_t *length) {
-    PyObject *kept;
-    if (PyBytes_Check(data)) {
-        kept = new_ref(data);
-    } else {
-        PyObject *view = view_of(data);
-        if (!view) return NULL;
-        kept = PyObject_CallMethod(view, "tobytes", NULL);
-        Py_DECREF(view);
-        if (!kept) return NULL;
-    }
-    *bytes = (const uint8_t *)PyBytes_AsString(kept);
-    *length = (size_t)PyBytes_Size(kept);
-    return kept;
 }

@@ -49,6 +49,15 @@ PyObject *find_name(struct shared *shared, PyObject *name) {
     return NULL;
 }
 
+/* (name, type, whether it has bytes). The format has no length: what the headers of 3.13 make of one
+ * doesn't run before 3.13. */
+static PyObject *named(const struct scratch *scratch, const scaleview_answer *answer) {
+    const char *bytes = (const char *)scratch->bytes;
+    PyObject *name = PyUnicode_FromStringAndSize(bytes, (Py_ssize_t)answer->length);
+    if (!name) return NULL;
+    return Py_BuildValue("(NkO)", name, (unsigned long)answer->from, answer->at ? Py_True : Py_False);
+}
+
 /* (name, type, whether it has bytes), or None if there are no more names. */
 PyObject *name_at(struct shared *shared, uint32_t index) {
     struct question question = {ask_name, shared, index, NULL, 0};
@@ -57,8 +66,7 @@ PyObject *name_at(struct shared *shared, uint32_t index) {
     PyObject *made = NULL;
     if (ask(&question, &scratch, &answer) == 0) {
         if (answer.code == SCALEVIEW_OK)
-            made = Py_BuildValue("(s#kO)", (const char *)scratch.bytes, (Py_ssize_t)answer.length,
-                                 (unsigned long)answer.from, answer.at ? Py_True : Py_False);
+            made = named(&scratch, &answer);
         else
             made = new_ref(Py_None);
     }

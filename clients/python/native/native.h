@@ -1,5 +1,6 @@
-/* What the parts of the extension module share. All functions need the GIL, which also guards all of this data: a module
- * for the limited API isn't loaded by a Python without one. Interpreters that share a GIL have a module each. */
+/* What the parts of the extension module share. Each interpreter has a module with classes and
+ * registries of its own. All functions need the interpreter's lock, which also guards this data: a
+ * module for the limited API isn't loaded by a Python without one. */
 #ifndef NATIVE_H
 #define NATIVE_H
 #define PY_SSIZE_T_CLEAN
@@ -24,12 +25,15 @@ enum {
     KEPT_SCRATCH = 1 << 20, /* scratch memory above this many bytes is freed after a call */
     MOST_INDEX = 255,       /* the greatest index of an arm */
     NO_INDEX = -1,          /* a Variant that was made without an index */
+    NO_CODE = 0,            /* a refusal that isn't the library's */
 };
 
-/* The state of a module: the classes of its interpreter. */
+/* The state of a module: what its interpreter has. */
 struct state {
-    PyObject *refused_class, *encode_error_class, *out_of_memory_class, *empties_class, *bits_class;
-    PyTypeObject *variant_class, *registry_class, *decoder_class;
+    PyObject *refused_class, *unknown_name_class, *encode_error_class, *out_of_memory_class;
+    PyObject *empties_class, *bits_class;
+    PyTypeObject *variant_class, *registry_class, *metadata_class, *type_class, *decoder_class;
+    bool interns; /* names of types are interned */
 };
 
 /* The fields of a composite or of an arm, or the members of a tuple. */
@@ -110,6 +114,33 @@ struct shared {
     struct held *dropped;
 };
 
+#if PY_VERSION_HEX < 0x030c0000
+/* The headers before 3.12 count the references of all objects. Since 3.12 interpreters with locks of
+ * their own share some, whose counts are negative as 32 bits, and which nobody may write. */
+static inline bool is_immortal(const PyObject *object) {
+    return (int32_t)object->ob_refcnt < 0;
+}
+
+static inline void count_reference(PyObject *object) {
+    if (!is_immortal(object)) object->ob_refcnt++;
+}
+
+static inline void drop_reference(PyObject *object) {
+    if (!is_immortal(object) && --object->ob_refcnt == 0) _Py_Dealloc(object);
+}
+
+static inline void drop_any_reference(PyObject *object) {
+    if (object) drop_reference(object);
+}
+
+#undef Py_INCREF
+#undef Py_DECREF
+#undef Py_XDECREF
+#define Py_INCREF(object) count_reference((PyObject *)(object))
+#define Py_DECREF(object) drop_reference((PyObject *)(object))
+#define Py_XDECREF(object) drop_any_reference((PyObject *)(object))
+#endif
+
 static inline PyObject *new_ref(PyObject *object) {
     Py_INCREF(object);
     return object;
@@ -147,6 +178,36 @@ struct call {
     struct limits limits;
 };
 
+/* What a program gives for a call: NULL where it gives nothing. */
+struct arguments {
+    PyObject *type, *value, *depth, *limit, *memory; /* borrowed */
+    uint32_t type_id;                                /* the type's position if `type` is NULL */
+    int is_opaque;
+};
+
+/* How the arguments of a call that decodes are given. */
+struct form {
+    const char *format;
+    char *names[7];
+};
+
+typedef PyObject *run_of_call(const struct call *call);
+
+/* The bytes that a registry is opened from. */
+struct source {
+    const uint8_t *bytes;
+    size_t length;
+    uint64_t before; /* the number of bytes before them, which places count as well */
+    uint32_t flags;
+};
+
+/* What bytes are given for: a part that is rejected by this name, and an item of several, or -1. */
+struct whose {
+    const struct state *state;
+    const char *part;
+    Py_ssize_t item;
+};
+
 /* The bytes of a value, and what it may take. */
 struct input {
     const struct call *call;
@@ -160,7 +221,7 @@ struct input {
 };
 
 /* shared.c: registries, turns and memory. */
-struct shared *open_shared(PyObject *module, const uint8_t *bytes, size_t length, uint32_t flags);
+struct shared *open_shared(PyObject *module, const struct source *source);
 struct shared *retain(struct shared *shared);
 void release(struct shared *shared);
 void enter(struct shared *shared, bool writes);
@@ -173,25 +234,31 @@ void give_scratch(struct shared *shared, struct scratch scratch);
 int make_room(struct scratch *scratch, size_t nodes, size_t bytes);
 uint32_t with_stack(uint16_t depth, uint32_t (*call)(void *), void *context);
 
-/* errors.c: exceptions, numbers and buffers. */
+/* errors.c: exceptions. */
 int import_classes(struct state *state);
 void raise_answer(const struct state *state, const scaleview_answer *answer, uint32_t type, Py_ssize_t item, uint64_t memory);
-void raise_unopened(const struct state *state, const scaleview_answer *answer);
+void raise_unopened(const struct state *state, const scaleview_answer *answer, uint64_t before);
+void raise_wrong_text(const struct whose *whose, const char *reason, size_t place);
 void raise_name(const struct state *state, const scaleview_answer *answer, PyObject *name);
 int fail_input(const struct input *input, const scaleview_answer *answer);
 void raise_rejected_node(const struct state *state, const scaleview_answer *answer, PyObject *path);
 void raise_out_of_memory(const struct state *state, uint64_t memory);
+void raise_over_budget(const struct state *state, uint64_t memory);
 PyObject *reason_of(uint32_t code);
+
+/* arguments.c: numbers, types, limits and bytes. */
 int read_number(const char *name, PyObject *object, uint64_t most, uint64_t *number);
-int read_type(PyObject *registry, PyObject *object, uint32_t *type);
+int read_type(const struct state *state, PyObject *registry, PyObject *object, uint32_t *type);
 int read_limits(PyObject *depth, PyObject *limit, PyObject *memory, struct limits *limits);
 uint64_t budget_of(const struct limits *limits, uint64_t length);
 PyObject *view_of(PyObject *data);
 PyObject *bytes_of(PyObject *data, const uint8_t **bytes, size_t *length);
+PyObject *given_bytes(const struct whose *whose, PyObject *data, const uint8_t **bytes,
+                      size_t *length);
 
 /* types.c: what a registry says about its types. */
 extern const char *const primitive_names[15];
-int choose_interning(void);
+int choose_interning(struct state *state);
 const struct type_info *info_of(struct shared *shared, uint32_t type);
 void free_info(struct type_info *info);
 PyObject *shape_tuple(struct shared *shared, uint32_t type);
@@ -218,20 +285,31 @@ void raise_torn(void);
 struct held *start_session(const struct call *call, uint64_t memory, Py_ssize_t item);
 PyObject *decode_pieces(const struct input *input, size_t *used);
 
+/* decode.c: values of bytes, and their text. */
+run_of_call decode_value, decode_front, decode_items, decode_text;
+
 /* values.c: values of nodes. */
 PyObject *value_of(struct shared *shared, const scaleview_node *nodes, size_t count, const uint8_t *pool);
 
 /* encode.c: nodes of values. */
-PyObject *encode_value(struct shared *shared, uint32_t type, PyObject *value, const struct limits *limits);
+run_of_call encode_value;
 
-/* registry.c and decoder.c: the two classes. */
+/* The other classes, each in the file of its name. */
 int make_registry_class(PyObject *module);
+int make_metadata_class(PyObject *module);
+int make_type_class(PyObject *module);
 int make_decoder_class(PyObject *module);
 struct shared *shared_of(PyObject *registry);
+int read_data(struct form *form, PyObject *args, PyObject *keywords, struct arguments *given);
+PyObject *run_call(PyObject *registry, const struct arguments *given, run_of_call *run);
+PyObject *registry_of_type(PyObject *type);
+uint32_t id_of_type(PyObject *type);
 
 /* module.c: the module and its state. */
+long version_of_python(void);
 PyObject *module_of(PyTypeObject *class);
-int add_class(PyObject *module, PyTypeObject **made, PyType_Spec *spec, const char *name);
+int add_class(PyObject *module, PyTypeObject **made, PyType_Spec *spec, PyObject *bases,
+              const char *name);
 
 static inline struct state *state_of(PyObject *module) {
     return PyModule_GetState(module);

@@ -14,23 +14,44 @@ struct shared *shared_of(PyObject *registry) {
     return NULL;
 }
 
+/* Takes off what a node answers to a question for metadata of a version: the option's byte and the
+ * length, which counts all that follows. */
+static void unwrap(struct source *source) {
+    scaleview_answer answer;
+    if (source->length == 0 || source->bytes[0] != 1) return;
+    if (scaleview_opaque(source->bytes + 1, source->length - 1, &answer) != SCALEVIEW_OK) return;
+    source->before = 1 + answer.at;
+    source->bytes += source->before;
+    source->length = (size_t)answer.length;
+}
+
+/* Opens what the bytes of a source hold. `metadata` is an object that says whether they are
+ * metadata, or None if their first letters do. */
+static struct shared *open_source(PyObject *module, PyObject *metadata, struct source *source) {
+    bool begins = source->length >= 4 && !memcmp(source->bytes, "meta", 4);
+    int is_metadata = metadata == Py_None ? begins : PyObject_IsTrue(metadata);
+    if (is_metadata < 0) return NULL;
+    if (is_metadata) source->flags |= SCALEVIEW_METADATA;
+    if (source->flags & SCALEVIEW_NAMES) unwrap(source);
+    return open_shared(module, source);
+}
+
 static PyObject *registry_new(PyTypeObject *class, PyObject *args, PyObject *keywords) {
     static char *names[] = {"data", "metadata", "bits", "_names", NULL};
     PyObject *data, *metadata = Py_None;
+    struct source source = {0};
     int has_bits = 0, has_names = 0;
-    const uint8_t *bytes;
-    size_t length;
-    if (!PyArg_ParseTupleAndKeywords(args, keywords, "O|$Opp:Registry", names, &data, &metadata, &has_bits, &has_names))
+    if (!PyArg_ParseTupleAndKeywords(args, keywords, "O|$Opp:Registry", names, &data, &metadata,
+                                     &has_bits, &has_names))
         return NULL;
-    PyObject *kept = bytes_of(data, &bytes, &length);
-    if (!kept) return NULL;
-    int is_metadata = metadata == Py_None ? length >= 4 && !memcmp(bytes, "meta", 4) : PyObject_IsTrue(metadata);
-    PyObject *module = is_metadata < 0 ? NULL : module_of(class);
-    uint32_t flags = (is_metadata ? SCALEVIEW_METADATA : 0) | (has_names ? SCALEVIEW_NAMES : 0);
-    flags |= has_bits ? SCALEVIEW_BITS : 0;
-    struct shared *shared = module ? open_shared(module, bytes, length, flags) : NULL;
-    Py_XDECREF(module);
-    Py_DECREF(kept);
+    source.flags = (has_bits ? SCALEVIEW_BITS : 0) | (has_names ? SCALEVIEW_NAMES : 0);
+    PyObject *module = module_of(class);
+    if (!module) return NULL;
+    struct whose whose = {state_of(module), "registry", -1};
+    PyObject *kept = given_bytes(&whose, data, &source.bytes, &source.length);
+    struct shared *shared = kept ? open_source(module, metadata, &source) : NULL;
+    Py_DECREF(module);
+    Py_XDECREF(kept);
     if (!shared) return NULL;
     allocfunc alloc = (allocfunc)PyType_GetSlot(class, Py_tp_alloc);
     PyObject *self = alloc(class, 0);
@@ -58,218 +79,89 @@ static void registry_dealloc(PyObject *self) {
     Py_DECREF(class);
 }
 
-/* Reads the arguments, and takes a reference to the registry, which the caller releases. */
-static int read_call(PyObject *self, PyObject *args, PyObject *keywords, const char *format, char **names,
-                     struct call *call) {
-    PyObject *type, *depth = NULL, *limit = NULL, *memory = NULL;
-    bool is_encoded = names[3] && names[3][0] == 'm';
-    PyObject **third = is_encoded ? &memory : &limit, **fourth = is_encoded ? NULL : &memory;
-    int is_opaque = 0;
+/* Makes a call on a registry, and returns what it returns. */
+PyObject *run_call(PyObject *registry, const struct arguments *given, run_of_call *run) {
+    struct call call = {shared_of(registry), given->value, given->type_id, given->is_opaque, {0}};
+    if (!call.shared) return NULL;
+    const struct state *state = call.shared->state;
+    int code = given->type ? read_type(state, registry, given->type, &call.type) : 0;
+    if (code == 0) code = read_limits(given->depth, given->limit, given->memory, &call.limits);
+    PyObject *made = code == 0 ? run(&call) : NULL;
+    release(call.shared);
+    return made;
+}
+
+/* Reads the arguments of a call that decodes values of a type that is known. */
+int read_data(struct form *form, PyObject *args, PyObject *keywords, struct arguments *given) {
+    if (!keywords && PyTuple_Size(args) == 1) {
+        given->value = PyTuple_GetItem(args, 0);
+        return 0;
+    }
+    int is_read = PyArg_ParseTupleAndKeywords(args, keywords, form->format, form->names,
+                                              &given->value, &given->depth, &given->limit,
+                                              &given->memory, &given->is_opaque);
+    return is_read ? 0 : -1;
+}
+
+/* Reads the arguments of a call that decodes, and makes it. */
+static PyObject *call_by(struct form *form, PyObject *self, PyObject *args, PyObject *keywords,
+                         run_of_call *run) {
+    struct arguments given = {0};
     if (!keywords && PyTuple_Size(args) == 2) {
-        type = PyTuple_GetItem(args, 0);
-        call->value = PyTuple_GetItem(args, 1);
-    } else if (!PyArg_ParseTupleAndKeywords(args, keywords, format, names, &type, &call->value, &depth, third, fourth,
-                                            &is_opaque)) {
-        return -1;
+        given.type = PyTuple_GetItem(args, 0);
+        given.value = PyTuple_GetItem(args, 1);
+    } else if (!PyArg_ParseTupleAndKeywords(args, keywords, form->format, form->names, &given.type,
+                                            &given.value, &given.depth, &given.limit, &given.memory,
+                                            &given.is_opaque)) {
+        return NULL;
     }
-    call->is_opaque = is_opaque;
-    if (read_type(self, type, &call->type) < 0 || read_limits(depth, limit, memory, &call->limits) < 0) return -1;
-    call->shared = shared_of(self);
-    return call->shared ? 0 : -1;
-}
-
-static char *decode_names[] = {"type", "data", "depth", "limit", "memory", "opaque", NULL};
-
-/* Takes the length off the front of an opaque value. */
-static int skip_length(struct input *input) {
-    scaleview_answer answer = {.code = SCALEVIEW_UNKNOWN_TYPE};
-    if (!input->call->is_opaque) return 0;
-    if (input->call->type < input->call->shared->count) scaleview_opaque(input->bytes, input->length, &answer);
-    if (answer.code != SCALEVIEW_OK) return fail_input(input, &answer);
-    input->before = answer.at;
-    input->bytes += answer.at;
-    input->length = (size_t)answer.length;
-    return 0;
-}
-
-/* Reads where the bytes of a value are, and what it may take. Returns what keeps them, or NULL with an exception. */
-static PyObject *read_input(PyObject *data, struct input *input) {
-    PyObject *kept = bytes_of(data, &input->bytes, &input->length);
-    if (kept && skip_length(input) < 0) Py_CLEAR(kept);
-    if (kept) input->memory = budget_of(&input->call->limits, input->length);
-    return kept;
-}
-
-/* Decodes a value by one call of the library, during which no signal is handled. */
-static PyObject *decode_at_once(const struct input *input) {
-    const struct call *call = input->call;
-    struct shared *shared = call->shared;
-    size_t length = input->length, nodes = length / 4 + 32;
-    struct scratch scratch = take_scratch(shared);
-    PyObject *value = NULL;
-    for (;;) {
-        scaleview_answer answer;
-        if (make_room(&scratch, nodes, length + 1) < 0) break;
-        enter(shared, false);
-        PyThreadState *state = length >= LONG_INPUT ? PyEval_SaveThread() : NULL;
-        uint32_t code = scaleview_decode_nodes(shared->registry, call->type, call->limits.depth, call->limits.limit,
-                                               input->memory, input->bytes, length, scratch.nodes,
-                                               scratch.node_room, scratch.bytes, scratch.byte_room, &answer);
-        if (state) PyEval_RestoreThread(state);
-        leave(shared);
-        if (code == SCALEVIEW_NO_ROOM) {
-            nodes = (size_t)answer.length;
-            if (answer.at <= length || make_room(&scratch, 0, (size_t)answer.at) == 0) continue;
-        } else if (code == SCALEVIEW_OK) {
-            value = value_of(shared, scratch.nodes, (size_t)answer.length, scratch.bytes);
-        } else {
-            fail_input(input, &answer);
-        }
-        break;
-    }
-    give_scratch(shared, scratch);
-    return value;
-}
-
-/* Decodes one value. */
-static PyObject *decode_one(const struct call *call, PyObject *data, Py_ssize_t item) {
-    struct input input = {.call = call, .item = item};
-    PyObject *kept = read_input(data, &input), *value;
-    size_t used;
-    if (!kept) return NULL;
-    if (input.length >= LONG_VALUE && !is_torn(call->shared))
-        value = decode_pieces(&input, &used);
-    else
-        value = decode_at_once(&input);
-    Py_DECREF(kept);
-    return value;
+    return run_call(self, &given, run);
 }
 
 static PyObject *registry_decode(PyObject *self, PyObject *args, PyObject *keywords) {
-    struct call call;
-    if (read_call(self, args, keywords, "OO|$OOOp:decode", decode_names, &call) < 0) return NULL;
-    PyObject *value = decode_one(&call, call.value, -1);
-    release(call.shared);
-    return value;
-}
-
-/* Finds the bytes of a buffer that begins with a value. They are copied in pieces, if they stand in a row, so that what
- * follows the value costs nothing. */
-static PyObject *front_of(PyObject *data, struct input *input) {
-    if (PyBytes_Check(data)) return bytes_of(data, &input->bytes, &input->length);
-    PyObject *view = view_of(data);
-    if (!view) return NULL;
-    input->view = PyObject_CallMethod(view, "cast", "s", "B");
-    Py_DECREF(view);
-    if (input->view) {
-        input->length = (size_t)PyObject_Size(input->view);
-        return input->view;
-    }
-    if (!PyErr_ExceptionMatches(PyExc_TypeError) && !PyErr_ExceptionMatches(PyExc_ValueError)) return NULL;
-    PyErr_Clear();
-    return bytes_of(data, &input->bytes, &input->length);
+    static struct form form = {
+        "OO|$OOOp:decode", {"type", "data", "depth", "limit", "memory", "opaque", NULL},
+    };
+    return call_by(&form, self, args, keywords, decode_value);
 }
 
 static PyObject *registry_decode_prefix(PyObject *self, PyObject *args, PyObject *keywords) {
-    static char *names[] = {"type", "data", "depth", "limit", "memory", NULL};
-    struct call call;
-    struct input input = {.call = &call, .item = -1, .is_front = true};
-    size_t used;
-    if (read_call(self, args, keywords, "OO|$OOO:decode_prefix", names, &call) < 0) return NULL;
-    PyObject *kept = front_of(call.value, &input), *value = NULL;
-    if (kept) {
-        input.memory = budget_of(&call.limits, input.length);
-        value = decode_pieces(&input, &used);
-        Py_DECREF(kept);
-    }
-    release(call.shared);
-    return value ? Py_BuildValue("(NK)", value, (unsigned long long)used) : NULL;
+    static struct form form = {
+        "OO|$OOO:decode_prefix", {"type", "data", "depth", "limit", "memory", NULL},
+    };
+    return call_by(&form, self, args, keywords, decode_front);
 }
 
 static PyObject *registry_decode_many(PyObject *self, PyObject *args, PyObject *keywords) {
-    static char *names[] = {"type", "items", "depth", "limit", "memory", "opaque", NULL};
-    struct call call;
-    if (read_call(self, args, keywords, "OO|$OOOp:decode_many", names, &call) < 0) return NULL;
-    PyObject *items = PyObject_GetIter(call.value), *values = items ? PyList_New(0) : NULL, *item = NULL;
-    for (Py_ssize_t at = 0; values && (item = PyIter_Next(items)); at++) {
-        PyObject *value = decode_one(&call, item, at);
-        if (!value || PyList_Append(values, value) < 0 || PyErr_CheckSignals() < 0) Py_CLEAR(values);
-        Py_XDECREF(value);
-        Py_DECREF(item);
-    }
-    if (values && PyErr_Occurred()) Py_CLEAR(values);
-    Py_XDECREF(items);
-    release(call.shared);
-    return values;
-}
-
-struct text_call {
-    const struct input *input;
-    struct scratch *scratch;
-    scaleview_answer *answer;
-};
-
-static uint32_t decode_text(void *context) {
-    const struct text_call *text = context;
-    const struct input *input = text->input;
-    const struct call *call = input->call;
-    return scaleview_decode(call->shared->registry, call->type, call->limits.depth, call->limits.limit, input->memory,
-                            input->bytes, input->length, text->scratch->bytes, text->scratch->byte_room, text->answer);
-}
-
-static PyObject *json_of(const struct input *input) {
-    struct shared *shared = input->call->shared;
-    uint16_t depth = input->call->limits.depth;
-    scaleview_answer answer = {SCALEVIEW_MEMORY, 0, 0, 0};
-    struct scratch scratch = take_scratch(shared);
-    PyObject *made = NULL;
-    size_t room = 4 * input->length + 256;
-    while (make_room(&scratch, 0, room) == 0) {
-        struct text_call text = {input, &scratch, &answer};
-        enter(shared, false);
-        bool is_long = input->length >= LONG_INPUT || depth > DEPTH;
-        PyThreadState *state = is_long ? PyEval_SaveThread() : NULL;
-        uint32_t code = with_stack(depth, decode_text, &text);
-        if (state) PyEval_RestoreThread(state);
-        leave(shared);
-        room = (size_t)answer.length;
-        if (code == SCALEVIEW_NO_ROOM) continue;
-        if (code == SCALEVIEW_OK)
-            made = PyUnicode_FromStringAndSize((const char *)scratch.bytes, (Py_ssize_t)answer.length);
-        else
-            fail_input(input, &answer);
-        break;
-    }
-    give_scratch(shared, scratch);
-    return made;
+    static struct form form = {
+        "OO|$OOOp:decode_many", {"type", "items", "depth", "limit", "memory", "opaque", NULL},
+    };
+    return call_by(&form, self, args, keywords, decode_items);
 }
 
 static PyObject *registry_decode_json(PyObject *self, PyObject *args, PyObject *keywords) {
-    struct call call;
-    struct input input = {.call = &call, .item = -1};
-    if (read_call(self, args, keywords, "OO|$OOOp:decode_json", decode_names, &call) < 0) return NULL;
-    PyObject *kept = read_input(call.value, &input), *made = kept ? json_of(&input) : NULL;
-    Py_XDECREF(kept);
-    release(call.shared);
-    return made;
+    static struct form form = {
+        "OO|$OOOp:decode_json", {"type", "data", "depth", "limit", "memory", "opaque", NULL},
+    };
+    return call_by(&form, self, args, keywords, decode_text);
 }
 
 static PyObject *registry_encode(PyObject *self, PyObject *args, PyObject *keywords) {
     static char *names[] = {"type", "value", "depth", "memory", NULL};
-    struct call call;
-    if (read_call(self, args, keywords, "OO|$OO:encode", names, &call) < 0) return NULL;
-    PyObject *made = encode_value(call.shared, call.type, call.value, &call.limits);
-    release(call.shared);
-    return made;
+    struct arguments given = {0};
+    if (!PyArg_ParseTupleAndKeywords(args, keywords, "OO|$OO:encode", names, &given.type,
+                                     &given.value, &given.depth, &given.memory))
+        return NULL;
+    return run_call(self, &given, encode_value);
 }
 
 /* Reads a type's number, and returns what a function reports about it. */
 static PyObject *describe(PyObject *self, PyObject *number, PyObject *(*report)(struct shared *, uint32_t)) {
     uint32_t type;
-    if (read_type(self, number, &type) < 0) return NULL;
     struct shared *shared = shared_of(self);
     if (!shared) return NULL;
-    PyObject *made = report(shared, type);
+    int code = read_type(shared->state, self, number, &type);
+    PyObject *made = code == 0 ? report(shared, type) : NULL;
     release(shared);
     return made;
 }
@@ -278,7 +170,8 @@ static PyObject *registry_shape(PyObject *self, PyObject *number) {
     return describe(self, number, shape_tuple);
 }
 
-static PyObject *registry_fields(PyObject *self, PyObject *number) {
+/* It isn't named `_fields`, by which `help` knows a named tuple, whose private names it lists. */
+static PyObject *registry_parts(PyObject *self, PyObject *number) {
     return describe(self, number, fields_list);
 }
 
@@ -391,7 +284,8 @@ static PyMethodDef methods[] = {
      "Returns the value of a type that all the bytes spell.\n\n"
      "Args:\n"
      "    type: A Type of this registry, or its position.\n"
-     "    data: Bytes, or another object with a buffer.\n"
+     "    data: Bytes, another object with a buffer, or text of hexadecimal digits, with or\n"
+     "        without 0x before them.\n"
      "    depth: The greatest depth of a part, up to 1024; the value itself has depth 0.\n"
      "    limit: The greatest number of bytes of the value, up to 2**40.\n"
      "    memory: The most bytes that the library allocates for it, without the Python objects: 64 MiB and 64\n"
@@ -433,7 +327,7 @@ static PyMethodDef methods[] = {
      "Its decoders stay usable, and its memory is freed with the last of them. A registry that is dropped is\n"
      "closed as well."},
     {"_shape", registry_shape, METH_O, NULL},
-    {"_fields", registry_fields, METH_O, NULL},
+    {"_parts", registry_parts, METH_O, NULL},
     {"_arms", registry_arms, METH_O, NULL},
     {"_path", registry_path, METH_O, NULL},
     {"_line", registry_line, METH_O, NULL},
@@ -460,5 +354,5 @@ static PyType_Spec spec = {
 };
 
 int make_registry_class(PyObject *module) {
-    return add_class(module, &state_of(module)->registry_class, &spec, "Registry");
+    return add_class(module, &state_of(module)->registry_class, &spec, NULL, "Registry");
 }

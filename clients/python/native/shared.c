@@ -5,6 +5,7 @@
 
 enum { SHALLOW = 64, DEEP_STACK = 1 << 21 };
 
+/* All interpreters read it, and it only changes while the process has one thread. */
 static unsigned forks;
 
 /* A child process begins, whose one thread makes no call. */
@@ -28,16 +29,18 @@ bool is_torn(struct shared *shared) {
     return shared->is_torn;
 }
 
-struct shared *open_shared(PyObject *module, const uint8_t *bytes, size_t length, uint32_t flags) {
+struct shared *open_shared(PyObject *module, const struct source *source) {
+    size_t length = source->length;
     struct shared *shared = calloc(1, sizeof *shared);
     if (!shared) return (struct shared *)PyErr_NoMemory();
     scaleview_answer answer;
     PyThreadState *state = length >= LONG_INPUT ? PyEval_SaveThread() : NULL;
-    uint32_t code = scaleview_open(bytes, length, flags, &shared->registry, &answer);
+    uint32_t code =
+        scaleview_open(source->bytes, length, source->flags, &shared->registry, &answer);
     if (state) PyEval_RestoreThread(state);
     if (code != SCALEVIEW_OK) {
         free(shared);
-        raise_unopened(state_of(module), &answer);
+        raise_unopened(state_of(module), &answer, source->before);
         return NULL;
     }
     shared->references = 1;
@@ -46,8 +49,8 @@ struct shared *open_shared(PyObject *module, const uint8_t *bytes, size_t length
     shared->forks = forks;
     shared->count = (uint32_t)answer.length;
     shared->version = answer.from;
-    shared->has_bits = flags & SCALEVIEW_BITS;
-    shared->end = answer.at;
+    shared->has_bits = source->flags & SCALEVIEW_BITS;
+    shared->end = source->before + answer.at;
     shared->infos = calloc(answer.length + 1, sizeof *shared->infos);
     if (!shared->infos) {
         release(shared);

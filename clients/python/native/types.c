@@ -11,15 +11,12 @@ static const char *const class_names[] = {"NoValue", "Empty", "Sized"};
 
 enum { SHORT_TEXT = 256, INTERNED = 64 };
 
-static bool interns = false;
-
-/* Finds out whether names are interned, so that they are the keys that programs spell. Python 3.12 would not free them. */
-int choose_interning(void) {
-    PyObject *number = PySys_GetObject("hexversion");
-    long version = number ? PyLong_AsLong(number) : -1;
-    if (version == -1 && PyErr_Occurred()) return -1;
-    interns = version >> 16 != 0x030c;
-    return 0;
+/* Finds out whether names are interned, so that they are the keys that programs spell. Python 3.12
+ * would not free them. */
+int choose_interning(struct state *state) {
+    long version = version_of_python();
+    state->interns = version >> 16 != 0x030c;
+    return version < 0 ? -1 : 0;
 }
 
 /* A text of the registry, which is of a type, of one of its arms, or of a field of either. */
@@ -69,7 +66,8 @@ static PyObject *read_text(const struct text_of *text, scaleview_answer *answer)
     else
         raise_answer(text->shared->state, answer, text->type, -1, 0);
     free(many);
-    if (made && interns && answer->length <= INTERNED) PyUnicode_InternInPlace(&made);
+    bool is_interned = text->shared->state->interns && answer->length <= INTERNED;
+    if (made && is_interned) PyUnicode_InternInPlace(&made);
     return made;
 }
 

@@ -132,7 +132,7 @@ static PyType_Spec spec = {"scaleview.Variant", sizeof(struct variant), 0, Py_TP
 
 int make_variant_class(PyObject *module) {
     PyTypeObject **class = &state_of(module)->variant_class;
-    if (add_class(module, class, &spec, "Variant") < 0) return -1;
+    if (add_class(module, class, &spec, NULL, "Variant") < 0) return -1;
     PyObject *names = Py_BuildValue("(ss)", "name", "fields");
     int code = names ? PyObject_SetAttrString((PyObject *)*class, "__match_args__", names) : -1;
     Py_XDECREF(names);

@@ -11,7 +11,7 @@ import unittest
 from typing import Any, Callable
 
 import registries as make
-from scaleview import Bits, Decoder, Empties, Refused, Registry, Variant
+from scaleview import Bits, Decoder, Empties, Refused, Registry, Type, Variant
 from test_vectors import metadata_of
 
 testing: Any = None
@@ -46,6 +46,7 @@ class Allocations(unittest.TestCase):
         )
         bits = make.registry_of(make.primitive("u16"), make.composite(), make.bits(0, 1), _1="bitvec::Msb0")
         chain = metadata_of("small chain 15")
+        wrapped = b"\1" + make.compact(len(chain)) + chain
         value = registry.decode(12, events)
         numbers = [(8, 1 << 255), (14, -(1 << 255)), (13, -(1 << 127)), (16, Empties(5)), (2, "é"), (17, [1 << 200] * 3)]
         wrong = [Variant("Transfer", {"from": (b"",), "to": 5, "amount": 1})]
@@ -54,7 +55,7 @@ class Allocations(unittest.TestCase):
             opened = Registry(data)
             for type_id in range(13):
                 opened._path(type_id), opened._shape(type_id), opened._line(type_id), opened._find("Option")
-                opened._fields(type_id), opened._arms(type_id)
+                opened._parts(type_id), opened._arms(type_id)
 
         def there_and_back() -> None:
             for type_id, number in numbers:
@@ -80,15 +81,18 @@ class Allocations(unittest.TestCase):
                     opened.encode(type_id, mixed)
                 except TypeError:
                     pass
-            try:
-                registry.decode(12, events[:-1])
-            except Refused:
-                pass
+            for given in (events[:-1], "0x0", "0g"):
+                try:
+                    registry.decode(12, given)
+                except Refused:
+                    pass
 
         def named() -> None:
-            opened = Registry(chain, metadata=True, _names=True)
+            opened = Registry(wrapped, metadata=True, _names=True)
             opened._name("extrinsic"), opened._name_at(28), opened._name_bytes("constant:Sys.Limit")
-            opened.decode(13, b"\x18\4\1\xd2\4\0\0", opaque=True)
+            found = Type(opened, 13)
+            found.decode(b"\x18\4\1\xd2\4\0\0", opaque=True)
+            found.encode(found.decode("0x0401d2040000"))
             for call, name in ((opened._name, "storage:Sys"), (opened._name_bytes, "extrinsic")):
                 try:
                     call(name)

@@ -7,18 +7,22 @@ import ast
 import copy
 import ctypes
 import doctest
+import gc
 import inspect
 import mmap
 import os
 import pathlib
 import pickle
+import pydoc
 import re
 import shutil
 import subprocess
 import sys
 import tempfile
 import time
+import tracemalloc
 import unittest
+import weakref
 import zipfile
 from multiprocessing.reduction import ForkingPickler
 from typing import Any, Callable, Iterator, Sequence
@@ -41,7 +45,8 @@ NAMED_CHAIN = make.registry_of(make.variant(("End", 0, ()), ("Next", 1, (("rest"
 
 def load_tests(loader: Any, tests: unittest.TestSuite, pattern: Any) -> unittest.TestSuite:
     tests.addTests(doctest.DocTestSuite(scaleview))
-    tests.addTests(doctest.DocTestSuite(scaleview._base))
+    for module in (scaleview._base, scaleview._json):
+        tests.addTests(doctest.DocTestSuite(module))
     folder = os.getcwd()
     readme = doctest.DocFileSuite(
         str(CLIENT / "README.md"),
@@ -391,7 +396,7 @@ class Values(unittest.TestCase):
         self.assertEqual((raised.exception.item, raised.exception.place), (1, 1))
         self.assertEqual(str(raised.exception), "value: Truncated at 1 in item 1")
         wrong: Any
-        for wrong in (5, ["a"], None):
+        for wrong in (5, [5], None):
             with self.assertRaises(TypeError):
                 registry.decode_many(0, wrong)
 
@@ -771,7 +776,8 @@ class Encoding(unittest.TestCase):
             decoder.finish,
             decoder.finish_json,
         ]
-        message = "^the budget of 1000 bytes of memory is reached, or an allocation failed$"
+        # Only `encode` knows by itself which of the two it was.
+        message = "^the budget of 1000 bytes of memory is reached(, or an allocation failed)?$"
         for call in calls:
             with self.assertRaisesRegex(OutOfMemory, message):
                 call()
@@ -791,7 +797,8 @@ class Encoding(unittest.TestCase):
 
         for value in (range(10**7), Long()):
             for type_id in (1, 3):
-                with self.assertRaisesRegex(OutOfMemory, "^the budget of 1000 bytes"):
+                message = "^the budget of 1000 bytes of memory is reached$"
+                with self.assertRaisesRegex(OutOfMemory, message):
                     registry.encode(type_id, value, memory=1000)
         self.assertEqual(taken, [])
         with self.assertRaisesRegex(OutOfMemory, "^the budget of"):
@@ -822,6 +829,32 @@ class Encoding(unittest.TestCase):
         folder = str(pathlib.Path(__file__).parent)
         ended = subprocess.run(command, cwd=folder, stdout=subprocess.PIPE, universal_newlines=True)
         self.assertEqual(ended.stdout, "an allocation failed\n")
+
+    def test_objects_take_up_to_twelve_times_the_bound(self) -> None:
+        """An arm of one named field, whose objects are the largest for a node."""
+        arms = make.variant(("End", 0, ()), ("N", 1, (("a", 0),)))
+        registry = Registry(make.registry_of(arms, make.sequence(0)))
+        data = make.compact(2000) + (b"\1" * 30 + b"\0") * 2000
+
+        def is_enough(memory: int) -> bool:
+            try:
+                Decoder(registry, 1, memory=memory).feed(data)
+            except OutOfMemory:
+                return False
+            return True
+
+        low, high = 1, 1 << 24
+        while low < high:
+            middle = (low + high) // 2
+            low, high = (low, middle) if is_enough(middle) else (middle + 1, high)
+        tracemalloc.start()
+        value = registry.decode(1, data)
+        taken, _ = tracemalloc.get_traced_memory()
+        tracemalloc.stop()
+        self.assertEqual(len(value), 2000)
+        self.assertGreater(taken, 8 * low)
+        self.assertLess(taken, 12 * low)
+        self.assertIn("up to twelve times as much", (CLIENT / "README.md").read_text())
 
     def test_a_budget_of_memory_is_set_where_none_is_given(self) -> None:
         empties = [(None, 0)] * 50_000
@@ -1032,10 +1065,63 @@ class Arguments(unittest.TestCase):
         def prefix(data: Any) -> Any:
             return registry.decode_prefix(0, data)
 
-        for wrong in ("00", None, 2, [2, 0]):
-            for call in (Registry, Registry.raw, decode, prefix, decoder.feed):
+        calls: list[Callable[[Any], object]] = [
+            Registry, Registry.raw, decode, prefix, decoder.feed, registry.types[0].decode,
+        ]
+        for wrong in (None, 2, [2, 0]):
+            for call in calls:
                 with self.assertRaisesRegex(TypeError, f"^expected bytes .* not {type(wrong).__name__}$"):
                     call(wrong)
+        # A piece of text may end between two digits.
+        with self.assertRaisesRegex(TypeError, "^expected bytes .* not str$"):
+            decoder.feed("0200")  # type: ignore[arg-type]
+
+    def test_text_of_hexadecimal_digits_is_taken(self) -> None:
+        registry = Registry("0x" + BYTES.hex())
+        self.assertEqual(Registry.raw(BYTES.hex()).decode(1, "0x0c0102ff"), b"\1\2\xff")
+        for text in ("0c0102ff", "0x0c0102ff", "0x0C0102fF", "0x0c0102ff\n", "0c0102ff\r\n"):
+            self.assertEqual(registry.decode(1, text), b"\1\2\xff")
+            self.assertEqual(registry.types[1].decode(text), b"\1\2\xff")
+            self.assertEqual(registry.decode_json(1, text), '"0x0102ff"')
+            self.assertEqual(registry.decode_many(1, [text, b"\0"]), [b"\1\2\xff", b""])
+            self.assertEqual(registry.decode_prefix(1, text), (b"\1\2\xff", 4))
+        self.assertEqual(registry.decode_prefix(1, "0x0c0102ff0000"), (b"\1\2\xff", 4))
+        self.assertEqual(registry.decode(1, "100c0102ff", opaque=True), b"\1\2\xff")
+        long = make.compact(300_000) + bytes(300_000)
+        self.assertEqual(registry.decode(1, "0x" + long.hex()), bytes(300_000))
+        with self.assertRaisesRegex(Refused, "^value: Truncated at 3$"):
+            registry.decode(1, "0x0c0102")
+
+    def test_other_text_is_rejected(self) -> None:
+        registry = Registry(U16)
+        for text, reason, place in (
+            ("0", "OddHex", 1), ("0x0", "OddHex", 3), ("020", "OddHex", 3),
+            ("0200\n\n", "OddHex", 5), ("0200\r\r\n", "OddHex", 5), ("x020", "BadHex", 0),
+            ("0X00", "BadHex", 1), ("02 0", "BadHex", 2), ("0x0g", "BadHex", 3),
+            ("02é0", "BadHex", 2), ("02\ud8000", "BadHex", 2), ("02\x000", "BadHex", 2),
+            ("-200", "BadHex", 0), ("0x0x", "BadHex", 3), ("\uff10200", "BadHex", 0),
+            ("02/0", "BadHex", 2), ("02:@", "BadHex", 2), ("02G`", "BadHex", 2),
+        ):
+            calls: list[tuple[str, str, Callable[[], object]]] = [
+                ("value", "", lambda: registry.decode(0, text)),
+                ("value", "", lambda: registry.decode_json(0, text)),
+                ("value", "", lambda: registry.decode_prefix(0, text)),
+                ("value", " in item 1", lambda: registry.decode_many(0, ["0200", text])),
+                ("registry", "", lambda: Registry(text)),
+                ("registry", "", lambda: scaleview.Metadata(text)),
+            ]
+            for part, item, call in calls:
+                with self.subTest(text), self.assertRaises(Refused) as raised:
+                    call()
+                found = raised.exception
+                self.assertEqual(str(found), f"{part}: {reason} at {place}{item}")
+                said = found.code, found.reason, found.part, found.place
+                self.assertEqual(said, (0, reason, part, place))
+                self.assertEqual(str(pickle.loads(pickle.dumps(found))), str(found))
+        self.assertEqual(registry.decode_prefix(0, "0200"), (2, 2))
+        for empty in ("", "0x", "\n", "0x\r\n"):
+            with self.assertRaisesRegex(Refused, "^value: Truncated at 0$"):
+                registry.decode(0, empty)
 
     def test_a_length_is_the_buffers(self) -> None:
         class Lying(bytes):
@@ -1061,6 +1147,11 @@ class Arguments(unittest.TestCase):
             (Registry.decode_prefix, f"(self, /, type, data, *, {rest})"),
             (Registry.decode_many, f"(self, /, type, items, *, {rest}, opaque=False)"),
             (Registry.encode, "(self, /, type, value, *, depth=64, memory=Ellipsis)"),
+            (scaleview.Metadata.extrinsic, f"(self, /, data, *, {rest})"),
+            (scaleview.Metadata.call, f"(self, /, data, *, {rest})"),
+            (Type, "(registry, type_id)"),
+            (Type.decode, f"(self, /, data, *, {rest}, opaque=False)"),
+            (Type.encode, "(self, /, value, *, depth=64, memory=Ellipsis)"),
             (Decoder, f"(registry, type, *, {rest})"),
             (Decoder.feed, "(self, piece, /)"),
             (Variant, "(name, fields=[], index=None)"),
@@ -1144,6 +1235,74 @@ class Types(unittest.TestCase):
         with self.assertRaises(ValueError):
             registry.find("\ud800")
 
+    def test_the_sequences_of_a_type_are_found(self) -> None:
+        registry = Registry(
+            make.registry_of(
+                make.primitive("u8"), make.sequence(0), make.array(3, 0), make.compact_of(0),
+                make.sequence(1), make.sequence(0), make.members(0), make.composite((None, 0)),
+                make.bits(0, 7), _7="Lsb0",
+            )
+        )
+        self.assertEqual([found.id for found in registry.sequences_of(0)], [1, 5])
+        self.assertEqual(registry.sequences_of(registry.types[1]), [registry.types[4]])
+        self.assertEqual(registry.sequences_of(4), [])
+        with self.assertRaisesRegex(Refused, "^type: UnknownType 9$"):
+            registry.sequences_of(9)
+        with self.assertRaisesRegex(ValueError, "^the type belongs to another registry$"):
+            registry.sequences_of(Registry(U16).types[0])
+        runtime = Registry((EXAMPLES / "runtime" / "metadata.scale").read_bytes())
+        record = runtime.find("frame_system::EventRecord")
+        assert record
+        # `values.txt` names the type of the events of a block.
+        lines = (EXAMPLES / "runtime" / "values.txt").read_text().splitlines()
+        position = dict(line.split() for line in lines)["events_block"]
+        self.assertEqual([str(found.id) for found in runtime.sequences_of(record)], [position])
+
+    def test_a_type_decodes_and_encodes(self) -> None:
+        registry = Registry(BYTES)
+        found = registry.types[1]
+        data = b"\x0c\1\2\xff"
+        narrow = {"depth": 0, "limit": 4, "memory": 1000}
+        limits: list[dict[str, Any]] = [{}, narrow, {"memory": None}]
+        for given in limits:
+            self.assertEqual(found.decode(data, **given), b"\1\2\xff")
+        self.assertEqual(found.decode(data=b"\x10" + data, opaque=True), b"\1\2\xff")
+        self.assertEqual(found.encode(b"\1\2\xff"), data)
+        self.assertEqual(found.encode(value=b"", memory=1000, depth=0), b"\0")
+        calls: list[tuple[type, str, Callable[[], object]]] = [
+            (Refused, "value: TooLong at 3", lambda: found.decode(data, limit=3)),
+            (Refused, "type: UnknownType 9", lambda: Type(registry, 9).decode(data)),
+            (Refused, "type: UnknownType 9", lambda: Type(registry, 9).encode(data)),
+            (OverflowError, "depth is out of range", lambda: found.decode(data, depth=1025)),
+            (OverflowError, "type is out of range", lambda: Type(registry, 1 << 32)),
+            (OutOfMemory, "the budget of 1 bytes", lambda: found.encode(b"", memory=1)),
+            (TypeError, "value: expected bytes, not str", lambda: found.encode("00")),
+        ]
+        for kind, message, call in calls:
+            with self.assertRaisesRegex(kind, f"^{message}"):
+                call()
+        wrong: Any
+        cases = (), (registry,), (registry, "1"), (registry, None), (BYTES, 1), (registry, 1, 2)
+        for wrong in cases:
+            with self.assertRaises(TypeError):
+                Type(*wrong)
+        for name in ("id", "registry"):
+            with self.assertRaises(AttributeError):
+                setattr(found, name, 5)
+        self.assertEqual([copy.copy(found), copy.deepcopy(found)], [found] * 2)
+        registry.close()
+        for call in (lambda: found.decode(data), lambda: found.encode(b"")):
+            with self.assertRaisesRegex(ValueError, "^the registry is closed$"):
+                call()
+
+    def test_a_type_that_its_registry_refers_to_is_collected(self) -> None:
+        registry: Any = Registry(BYTES)
+        registry.kept = registry.types[1]
+        gone = weakref.ref(registry)
+        del registry
+        gc.collect()
+        self.assertIsNone(gone())
+
     def test_a_type_stands_for_its_position(self) -> None:
         registry, other = Registry(BYTES), Registry(BYTES)
         found = registry.types[1]
@@ -1180,7 +1339,8 @@ class Stubs(unittest.TestCase):
         native: Any = scaleview._native
         stub = ast.parse((pathlib.Path(scaleview.__file__).parent / "_native.pyi").read_text())
         classes = [node for node in stub.body if isinstance(node, ast.ClassDef)]
-        self.assertEqual([node.name for node in classes], ["Variant", "Registry", "Decoder"])
+        names = ["Variant", "Registry", "Metadata", "Type", "Decoder"]
+        self.assertEqual([node.name for node in classes], names)
         for node in classes:
             stubbed = {part.name for part in node.body if isinstance(part, ast.FunctionDef)}
             there = set(vars(getattr(native, node.name)))
@@ -1188,6 +1348,12 @@ class Stubs(unittest.TestCase):
             self.assertEqual({name for name in there if not name.startswith("__")} - stubbed, set())
         for name in scaleview.__all__:
             self.assertTrue(getattr(scaleview, name))
+
+    def test_help_lists_no_private_names(self) -> None:
+        for shown in (Registry, scaleview.Metadata, Type, Decoder, Bits):
+            text = pydoc.plain(pydoc.render_doc(shown))
+            self.assertIn(shown.__name__, text)
+            self.assertEqual(re.findall(r"(?m)^ \|  (_[a-z]\w*)", text), [])
 
     def test_stubs_tell_which_classes_are_final(self) -> None:
         stub = ast.parse((pathlib.Path(scaleview.__file__).parent / "_native.pyi").read_text())
@@ -1356,6 +1522,11 @@ checks = [
 os.write(1, b"%d of %d, " % (checks.count(True), len(checks)))
 """
 
+    def used_data(self) -> str:
+        """The checks, with the registry that they use."""
+        arms = make.variant(("End", 0, ()), ("Next", 1, ((None, 0),)))
+        return f"DATA = {make.registry_of(arms, make.sequence(2), make.members())!r}\n{self.USE}"
+
     def run_program(self, program: str) -> str:
         command = [sys.executable, "-W", "ignore", "-c", self.BEGIN + program]
         ended = subprocess.run(command, stdout=subprocess.PIPE, stderr=subprocess.PIPE, universal_newlines=True)
@@ -1364,10 +1535,8 @@ os.write(1, b"%d of %d, " % (checks.count(True), len(checks)))
 
     def test_each_interpreter_has_its_own_classes(self) -> None:
         """In the first one, twice in each of two others, and in the first one after the others have ended."""
-        data = make.registry_of(make.variant(("End", 0, ()), ("Next", 1, ((None, 0),))), make.sequence(2), make.members())
-        use = f"DATA = {data!r}\n{self.USE}"
         program = (
-            f"use = {use!r}\n"
+            f"use = {self.used_data()!r}\n"
             "exec(use)\n"
             "others = [create(False), create(False)]\n"
             "for other in others * 2: interpreters.run_string(other, use)\n"
@@ -1377,14 +1546,21 @@ os.write(1, b"%d of %d, " % (checks.count(True), len(checks)))
         self.assertEqual(self.run_program(program), "9 of 9, " * 6)
 
     @unittest.skipIf(sys.version_info < (3, 12), "all interpreters share a lock before 3.12")
-    def test_an_interpreter_with_its_own_lock_does_not_import_it(self) -> None:
-        use = (
-            "import os\n"
-            "try: import scaleview\n"
-            "except ImportError as error: os.write(1, str(error).encode())\n"
+    def test_interpreters_with_locks_of_their_own_run_at_once(self) -> None:
+        """Each imports it by itself, and decodes in a thread while the others do."""
+        program = (
+            "import threading\n"
+            f"use = {self.used_data()!r}\n"
+            "others = [create(True) for _ in range(4)]\n"
+            "def run(other):\n"
+            "    for _ in range(20): interpreters.run_string(other, use)\n"
+            "threads = [threading.Thread(target=run, args=(other,)) for other in others]\n"
+            "for thread in threads: thread.start()\n"
+            "for thread in threads: thread.join()\n"
+            "for other in others: interpreters.destroy(other)\n"
+            "exec(use)\n"
         )
-        message = "module scaleview._native does not support loading in subinterpreters"
-        self.assertEqual(self.run_program(f"interpreters.run_string(create(True), {use!r})\n"), message)
+        self.assertEqual(self.run_program(program), "9 of 9, " * 81)
 
 
 class Program(unittest.TestCase):
@@ -1513,6 +1689,12 @@ class Building(unittest.TestCase):
             line = self.import_from(copy_of / "made")
         version = scaleview._native.LIBRARY_VERSION
         self.assertIn(f"built with the header 654321 and the library {version}: run `bash clients/build`", line)
+
+    def test_formats_have_no_lengths(self) -> None:
+        """What the headers of Python 3.13 make of them doesn't run in older versions."""
+        for path in sorted((CLIENT / "native").glob("*.c")):
+            code = re.sub(r"(?m)^#.*", "", path.read_text())
+            self.assertNotRegex(code, r"\"[^\"\n]*#[^\"\n]*\"", path.name)
 
     def test_versions_agree(self) -> None:
         self.assertIn(f'version = "{scaleview.__version__}"', (CLIENT / "pyproject.toml").read_text())

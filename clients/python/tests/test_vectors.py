@@ -116,7 +116,8 @@ def fits(fields: Any, arm: Arm) -> bool:
 
 
 def dumped(value: Any) -> str:
-    return json.dumps(value, ensure_ascii=False, separators=(",", ":"))
+    # What `json.dumps` calls has a limit of its own since Python 3.12.
+    return "".join(json.JSONEncoder(ensure_ascii=False, separators=(",", ":")).iterencode(value))
 
 
 class Vectors(unittest.TestCase):
@@ -191,7 +192,7 @@ class Vectors(unittest.TestCase):
                 self.check_registry(row)
 
     def test_values(self) -> None:
-        """On a thread with a stack for `json.dumps` of deep values, and a limit of recursion that lets it."""
+        """On a thread with a stack for the JSON of deep values, and a limit of recursion that lets it."""
         limit, size = sys.getrecursionlimit(), threading.stack_size(1 << 28)
         sys.setrecursionlimit(20_000)
         try:

@@ -11,10 +11,12 @@ class Refused(ValueError):
     """Bytes, a type, a value or a limit that the library rejects.
 
     Attributes:
-        code: The library's number.
-        reason: The library's name of it, such as "Truncated".
+        code: The library's number, or 0 for OddHex and BadHex.
+        reason: The library's name of it, such as "Truncated". Text of hexadecimal digits may be
+            OddHex, if a digit is missing, and BadHex.
         part: What is rejected: "registry", "check" for a reference between its types, "type", "limits" or "value".
-        place: The place in bytes from the start, or None if it has none.
+        place: The place in bytes from the start, or in characters for OddHex and BadHex, or None
+            if it has none.
         from_type: The position of the type that refers to one that doesn't exist, or None.
         to_type: The position of a type that doesn't exist, or None.
         item: The position of the rejected item of `decode_many`, or None.
@@ -53,6 +55,10 @@ class Refused(ValueError):
         if self.place is not None:
             text += f" at {self.place}"
         return text if self.item is None else f"{text} in item {self.item}"
+
+
+class UnknownName(Refused, KeyError):
+    """A name that metadata doesn't have, in `name`. It is a KeyError as well."""
 
 
 class EncodeError(Refused):

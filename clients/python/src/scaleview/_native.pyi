@@ -3,7 +3,7 @@ from typing import Any, Dict, Iterable, List, Optional, Tuple, Type as Class, Ty
 
 from typing_extensions import Buffer
 
-from . import Type
+from . import _registry
 
 DEPTH: int
 LIMIT: int
@@ -17,7 +17,10 @@ class Variant:
     __match_args__ = ("name", "fields")
     __hash__: None  # type: ignore[assignment]
     def __new__(
-        cls, name: str, fields: Union[Dict[str, Any], List[Any], Tuple[Any, ...]] = ..., index: Optional[int] = None
+        cls,
+        name: str,
+        fields: Union[Dict[str, Any], List[Any], Tuple[Any, ...]] = ...,
+        index: Optional[int] = None,
     ) -> Variant: ...
     @property
     def name(self) -> str: ...
@@ -27,11 +30,18 @@ class Variant:
     def index(self) -> Optional[int]: ...
 
 _R = TypeVar("_R", bound=Registry)
+_T = TypeVar("_T", bound=Type)
 
 # Where `memory` isn't given, it is 64 MiB and 64 times the length of the input; None sets no bound.
+# Text is that of hexadecimal digits.
 class Registry:
     def __new__(
-        cls: Class[_R], data: Buffer, *, metadata: Optional[bool] = None, bits: bool = False, _names: bool = False
+        cls: Class[_R],
+        data: Union[Buffer, str],
+        *,
+        metadata: Optional[bool] = None,
+        bits: bool = False,
+        _names: bool = False,
     ) -> _R: ...
     @property
     def version(self) -> Optional[int]: ...
@@ -44,7 +54,7 @@ class Registry:
     def decode(
         self,
         type: Union[int, Type],
-        data: Buffer,
+        data: Union[Buffer, str],
         *,
         depth: int = ...,
         limit: int = ...,
@@ -52,12 +62,18 @@ class Registry:
         opaque: bool = ...,
     ) -> Any: ...
     def decode_prefix(
-        self, type: Union[int, Type], data: Buffer, *, depth: int = ..., limit: int = ..., memory: Optional[int] = ...
+        self,
+        type: Union[int, Type],
+        data: Union[Buffer, str],
+        *,
+        depth: int = ...,
+        limit: int = ...,
+        memory: Optional[int] = ...,
     ) -> Tuple[Any, int]: ...
     def decode_json(
         self,
         type: Union[int, Type],
-        data: Buffer,
+        data: Union[Buffer, str],
         *,
         depth: int = ...,
         limit: int = ...,
@@ -67,17 +83,21 @@ class Registry:
     def decode_many(
         self,
         type: Union[int, Type],
-        items: Iterable[Buffer],
+        items: Iterable[Union[Buffer, str]],
         *,
         depth: int = ...,
         limit: int = ...,
         memory: Optional[int] = ...,
         opaque: bool = ...,
     ) -> List[Any]: ...
-    def encode(self, type: Union[int, Type], value: Any, *, depth: int = ..., memory: Optional[int] = ...) -> bytes: ...
+    def encode(
+        self, type: Union[int, Type], value: Any, *, depth: int = ..., memory: Optional[int] = ...
+    ) -> bytes: ...
     def close(self) -> None: ...
-    def _shape(self, type: int, /) -> Tuple[str, str, Optional[int], Optional[int], Optional[int]]: ...
-    def _fields(self, type: int, /) -> List[Tuple[Optional[str], int]]: ...
+    def _shape(
+        self, type: Union[int, Type], /
+    ) -> Tuple[str, str, Optional[int], Optional[int], Optional[int]]: ...
+    def _parts(self, type: int, /) -> List[Tuple[Optional[str], int]]: ...
     def _arms(self, type: int, /) -> List[Tuple[str, int, List[Tuple[Optional[str], int]]]]: ...
     def _path(self, type: int, /) -> str: ...
     def _line(self, type: int, /) -> str: ...
@@ -87,13 +107,58 @@ class Registry:
     def _name_bytes(self, name: str, /) -> bytes: ...
     def __enter__(self: _R) -> _R: ...
     def __exit__(
-        self, kind: Optional[Class[BaseException]], error: Optional[BaseException], trace: Optional[TracebackType]
+        self,
+        kind: Optional[Class[BaseException]],
+        error: Optional[BaseException],
+        trace: Optional[TracebackType],
     ) -> None: ...
+
+class Metadata(Registry):
+    def extrinsic(
+        self,
+        data: Union[Buffer, str],
+        *,
+        depth: int = ...,
+        limit: int = ...,
+        memory: Optional[int] = ...,
+    ) -> Any: ...
+    def call(
+        self,
+        data: Union[Buffer, str],
+        *,
+        depth: int = ...,
+        limit: int = ...,
+        memory: Optional[int] = ...,
+    ) -> Any: ...
+
+class Type:
+    def __new__(cls: Class[_T], registry: Registry, type_id: int) -> _T: ...
+    @property
+    def registry(self) -> _registry.Registry: ...
+    @property
+    def id(self) -> int: ...
+    def decode(
+        self,
+        data: Union[Buffer, str],
+        *,
+        depth: int = ...,
+        limit: int = ...,
+        memory: Optional[int] = ...,
+        opaque: bool = ...,
+    ) -> Any: ...
+    def encode(self, value: Any, *, depth: int = ..., memory: Optional[int] = ...) -> bytes: ...
+    def __index__(self) -> int: ...
 
 @final
 class Decoder:
     def __new__(
-        cls, registry: Registry, type: Union[int, Type], *, depth: int = ..., limit: int = ..., memory: Optional[int] = ...
+        cls,
+        registry: Registry,
+        type: Union[int, Type],
+        *,
+        depth: int = ...,
+        limit: int = ...,
+        memory: Optional[int] = ...,
     ) -> Decoder: ...
     @property
     def taken(self) -> int: ...
@@ -110,5 +175,8 @@ class Decoder:
     def close(self) -> None: ...
     def __enter__(self) -> Decoder: ...
     def __exit__(
-        self, kind: Optional[Class[BaseException]], error: Optional[BaseException], trace: Optional[TracebackType]
+        self,
+        kind: Optional[Class[BaseException]],
+        error: Optional[BaseException],
+        trace: Optional[TracebackType],
     ) -> None: ...

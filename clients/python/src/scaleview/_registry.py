@@ -1,0 +1,227 @@
+"""Registries and their types."""
+
+from __future__ import annotations
+
+import os
+from typing import (
+    TYPE_CHECKING,
+    Any,
+    Iterator,
+    List,
+    NamedTuple,
+    Optional,
+    Sequence,
+    SupportsIndex,
+    Tuple,
+    TypeVar,
+    Union,
+    overload,
+)
+
+from . import _native
+
+# Checkers of types know typing_extensions, which needn't be installed.
+if TYPE_CHECKING:
+    from typing_extensions import Buffer
+
+    #: Bytes, or text of hexadecimal digits.
+    Data = Union[Buffer, str]
+else:
+    Data = Any
+
+_R = TypeVar("_R", bound="Registry")
+_T = TypeVar("_T", bound="Type")
+
+# In a child process no call of the parent's threads is under way.
+os.register_at_fork(after_in_child=_native._after_fork)
+
+
+class Field(NamedTuple):
+    """A field of a composite or of an arm, or a member of a tuple."""
+
+    name: Optional[str]
+    #: The position of its type.
+    type: int
+
+
+class Arm(NamedTuple):
+    """An arm of a variant."""
+
+    name: str
+    #: The first byte of its values.
+    index: int
+    fields: List[Field]
+
+
+def _fields(pairs: List[Tuple[Optional[str], int]]) -> List[Field]:
+    return [Field(name, type_id) for name, type_id in pairs]
+
+
+class Type(_native.Type):
+    """A type of a registry, which decodes and encodes its values.
+
+    Wherever a type is named, it or its `id` may stand.
+    """
+
+    __slots__ = ()
+
+    @property
+    def path(self) -> str:
+        """Its path, such as "frame_system::AccountInfo", or "" if it has none."""
+        return self.registry._path(self.id)
+
+    @property
+    def kind(self) -> str:
+        """What it is: "composite", "variant", "sequence", "array", "tuple", "compact",
+        "bitsequence" or a primitive, such as "u32"."""
+        return self.registry._shape(self.id)[0]
+
+    @property
+    def size_class(self) -> str:
+        """How many bytes its values take: "Sized", "Empty" for none, or "NoValue" if it has no
+        finite value."""
+        return self.registry._shape(self.id)[1]
+
+    @property
+    def fields(self) -> List[Field]:
+        """The fields of a composite or the members of a tuple, and else an empty list."""
+        return _fields(self.registry._parts(self.id))
+
+    @property
+    def variants(self) -> List[Arm]:
+        """The arms of a variant, and else an empty list."""
+        arms = self.registry._arms(self.id)
+        return [Arm(name, index, _fields(pairs)) for name, index, pairs in arms]
+
+    @property
+    def element(self) -> Optional[int]:
+        """The position of the type of a sequence's or an array's elements, of what a compact wraps,
+        or of a bit sequence's store, and else None."""
+        return self.registry._shape(self.id)[2]
+
+    @property
+    def order(self) -> Optional[int]:
+        """The position of the type that names the order of a bit sequence, and else None."""
+        return self.registry._shape(self.id)[3]
+
+    @property
+    def length(self) -> Optional[int]:
+        """The number of elements of an array, and else None."""
+        return self.registry._shape(self.id)[4]
+
+    def __eq__(self, other: object) -> bool:
+        if not isinstance(other, Type):
+            return NotImplemented
+        return self.registry is other.registry and self.id == other.id
+
+    def __hash__(self) -> int:
+        return hash((id(self.registry), self.id))
+
+    def __copy__(self: _T) -> _T:
+        return self
+
+    def __deepcopy__(self: _T, memo: object) -> _T:
+        return self
+
+    def __str__(self) -> str:
+        """Returns its position, class, kind and path, as the command prints them."""
+        return self.registry._line(self.id)[:-1]
+
+    def __repr__(self) -> str:
+        return f"<Type {self.id} {' '.join(filter(None, (self.kind, self.path)))}>"
+
+
+class Types(Sequence[Type]):
+    """The types of a registry by position. Each is made when it is asked for."""
+
+    __slots__ = ("_registry",)
+
+    def __init__(self, registry: Registry) -> None:
+        self._registry = registry
+
+    def __len__(self) -> int:
+        return self._registry._count
+
+    @overload
+    def __getitem__(self, index: SupportsIndex) -> Type: ...
+
+    @overload
+    def __getitem__(self, index: slice) -> List[Type]: ...
+
+    def __getitem__(self, index: Union[SupportsIndex, slice]) -> Union[Type, List[Type]]:
+        try:
+            found = range(len(self))[index]
+        except IndexError:
+            raise IndexError(f"the registry has no type at {index}: it has {len(self)}") from None
+        if isinstance(found, range):
+            return [Type(self._registry, type_id) for type_id in found]
+        return Type(self._registry, found)
+
+    def __iter__(self) -> Iterator[Type]:
+        return (Type(self._registry, type_id) for type_id in range(len(self)))
+
+    def __repr__(self) -> str:
+        return f"<{len(self)} types>"
+
+
+class Registry(_native.Registry):
+    """An open registry of types.
+
+    `data` holds a registry's bytes, or a chain's metadata of version 14 or 15, which is recognised
+    by its four letters "meta". With `metadata=True` it has to be metadata, and with
+    `metadata=False` a registry. The names that metadata gives to types are read by `Metadata`
+    alone. `data` may also be text of hexadecimal digits, with or without 0x before them.
+
+    With `bits=True` it reads values of bit sequences. The store of such a type has to be u8, u16,
+    u32 or u64, and its order a composite without fields whose path ends with Lsb0 or Msb0. Values
+    of other bit sequences are rejected, as all are by default.
+
+    It needs no `close`: memory is freed with the last object that uses it.
+
+    Raises:
+        Refused: The bytes are rejected, with the reason and the place.
+        OutOfMemory: An allocation failed.
+        TypeError: `data` has no buffer and is no text.
+    """
+
+    @classmethod
+    def raw(cls: type[_R], data: Data, *, bits: bool = False) -> _R:
+        """Opens a registry that stands alone, whatever its first letters are."""
+        return cls(data, metadata=False, bits=bits)
+
+    @property
+    def types(self) -> Types:
+        """The types by position."""
+        return Types(self)
+
+    def find(self, path: str) -> Optional[Type]:
+        """Returns the first type with this path, such as "frame_system::AccountInfo", or None, as
+        for ""."""
+        found = self._find(path)
+        return None if found is None else Type(self, found)
+
+    def find_all(self, path: str) -> List[Type]:
+        """Returns all types with this path, in order of position."""
+        found = []
+        at = self._find(path)
+        while at is not None:
+            found.append(Type(self, at))
+            at = self._find(path, at + 1)
+        return found
+
+    def sequences_of(self, element: Union[int, Type]) -> List[Type]:
+        """Returns all sequences whose elements are of this type, in order of position.
+
+        Raises:
+            Refused: The registry has no such type.
+        """
+        self._shape(element)
+        wanted = ("sequence", int(element))
+        shapes = ((at, self._shape(at)) for at in range(self._count))
+        return [Type(self, at) for at, shape in shapes if (shape[0], shape[2]) == wanted]
+
+    def __repr__(self) -> str:
+        if self.closed:
+            return "<Registry, closed>"
+        version = "" if self.version is None else f", metadata {self.version}"
+        return f"<Registry of {len(self.types)} types{version}>"
