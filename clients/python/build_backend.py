@@ -1,7 +1,8 @@
 """Builds the package by PEP 517 with a C compiler and nothing else.
 
 The extension module is one file for all versions of CPython from 3.8 on. It links `libscaleview.a`, which
-`bash clients/build` makes in clients/out; SCALEVIEW_LIB_DIR names another folder. CC names the compiler.
+`bash clients/build` makes in clients/out, and an sdist has; SCALEVIEW_LIB_DIR names another folder. CC names the
+compiler. With the setting `manylinux=yes` a wheel is tagged for every Linux that has the glibc that it needs.
 
     python3 build_backend.py FOLDER
 
@@ -16,6 +17,7 @@ import hashlib
 import io
 import os
 import pathlib
+import re
 import shlex
 import shutil
 import subprocess
@@ -53,8 +55,9 @@ def _header_folder() -> pathlib.Path:
 
 
 def _archive() -> pathlib.Path:
-    named = os.environ.get("SCALEVIEW_LIB_DIR")
-    archive = (pathlib.Path(named) if named else HERE.parent / "out") / "libscaleview.a"
+    named, beside = os.environ.get("SCALEVIEW_LIB_DIR"), HERE / "native"
+    folder = pathlib.Path(named) if named else beside if (beside / "libscaleview.a").exists() else HERE.parent / "out"
+    archive = folder / "libscaleview.a"
     if not archive.is_file():
         _fail(f"{archive} is missing: run `bash clients/build`, or set SCALEVIEW_LIB_DIR to the folder of libscaleview.a")
     return archive.resolve()
@@ -99,8 +102,16 @@ def build_package(folder: pathlib.Path) -> None:
     os.replace(package / "_native.new", package / EXTENSION)
 
 
-def _tag() -> str:
+def _glibc(extension: pathlib.Path) -> str:
+    """The oldest version of glibc that has all symbols that a file needs, as readelf lists them."""
+    listed = subprocess.run(["readelf", "--version-info", str(extension)], stdout=subprocess.PIPE, universal_newlines=True, check=True)
+    return "%d_%d" % max((int(major), int(minor)) for major, minor in re.findall(r"\bGLIBC_(\d+)\.(\d+)", listed.stdout))
+
+
+def _tag(extension: pathlib.Path, settings: Optional[Dict[str, Any]]) -> str:
     platform = sysconfig.get_platform().replace("-", "_").replace(".", "_")
+    if (settings or {}).get("manylinux") == "yes":
+        platform = platform.replace("linux", f"manylinux_{_glibc(extension)}", 1)
     return f"cp38-abi3-{platform}"
 
 
@@ -108,17 +119,17 @@ def _metadata() -> bytes:
     return (METADATA + (HERE / "README.md").read_text(encoding="utf-8")).encode()
 
 
-def _wheel_text() -> bytes:
-    return f"Wheel-Version: 1.0\nGenerator: scaleview {VERSION}\nRoot-Is-Purelib: false\nTag: {_tag()}\n".encode()
+def _wheel_text(tag: str) -> bytes:
+    return f"Wheel-Version: 1.0\nGenerator: scaleview {VERSION}\nRoot-Is-Purelib: false\nTag: {tag}\n".encode()
 
 
 def _digest(data: bytes) -> str:
     return "sha256=" + base64.urlsafe_b64encode(hashlib.sha256(data).digest()).rstrip(b"=").decode()
 
 
-def _write_wheel(folder: str, files: List[Tuple[str, bytes]]) -> str:
-    name, info = f"{NAME}-{VERSION}-{_tag()}.whl", f"{NAME}-{VERSION}.dist-info"
-    files = [*files, (f"{info}/METADATA", _metadata()), (f"{info}/WHEEL", _wheel_text())]
+def _write_wheel(folder: str, tag: str, files: List[Tuple[str, bytes]]) -> str:
+    name, info = f"{NAME}-{VERSION}-{tag}.whl", f"{NAME}-{VERSION}.dist-info"
+    files = [*files, (f"{info}/METADATA", _metadata()), (f"{info}/WHEEL", _wheel_text(tag))]
     lines = [f"{path},{_digest(data)},{len(data)}" for path, data in files] + [f"{info}/RECORD,,"]
     files.append((f"{info}/RECORD", ("\n".join(lines) + "\n").encode()))
     with zipfile.ZipFile(os.path.join(folder, name), "w", zipfile.ZIP_DEFLATED) as wheel:
@@ -138,7 +149,8 @@ def build_wheel(
         extension = pathlib.Path(made) / EXTENSION
         build_extension(extension)
         files.append((f"{NAME}/{EXTENSION}", extension.read_bytes()))
-    return _write_wheel(wheel_directory, files)
+        tag = _tag(extension, config_settings)
+    return _write_wheel(wheel_directory, tag, files)
 
 
 def build_editable(
@@ -146,16 +158,18 @@ def build_editable(
 ) -> str:
     """The package's sources stay where they are, and the extension module is built beside them."""
     source = HERE / "src"
-    build_extension(source / NAME / EXTENSION)
-    return _write_wheel(wheel_directory, [(f"_{NAME}.pth", f"{source}\n".encode())])
+    extension = source / NAME / EXTENSION
+    build_extension(extension)
+    return _write_wheel(wheel_directory, _tag(extension, None), [(f"_{NAME}.pth", f"{source}\n".encode())])
 
 
 def build_sdist(sdist_directory: str, config_settings: Optional[Dict[str, Any]] = None) -> str:
-    """The sources with scaleview.h, but without libscaleview.a, whose folder SCALEVIEW_LIB_DIR has to name."""
+    """The sources with scaleview.h and libscaleview.a, which is of one platform."""
     root = f"{NAME}-{VERSION}"
     files = {f"src/{NAME}/{path.name}": path.read_bytes() for path in _package_files()}
     files.update({f"native/{path.name}": path.read_bytes() for path in sorted((HERE / "native").iterdir())})
     files["native/scaleview.h"] = (_header_folder() / "scaleview.h").read_bytes()
+    files["native/libscaleview.a"] = _archive().read_bytes()
     files.update({name: (HERE / name).read_bytes() for name in ("README.md", "build_backend.py", "pyproject.toml")})
     files["PKG-INFO"] = _metadata()
     name = f"{root}.tar.gz"

@@ -1632,11 +1632,10 @@ class Building(unittest.TestCase):
             )
             self.assertEqual(built.returncode, 0, built.stderr)
             sources = pathlib.Path(folder) / "scaleview-0.1.0"
-            archive = os.environ.get("SCALEVIEW_LIB_DIR", str(CLIENT.parent / "out"))
             ended = subprocess.run(
                 [sys.executable, "build_backend.py", "made"],
                 cwd=sources,
-                env={**os.environ, "SCALEVIEW_LIB_DIR": archive},
+                env={name: value for name, value in os.environ.items() if name != "SCALEVIEW_LIB_DIR"},
                 stderr=subprocess.PIPE,
                 universal_newlines=True,
             )

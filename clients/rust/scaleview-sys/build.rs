@@ -1,11 +1,12 @@
-//! Finds libscaleview: in the folder that SCALEVIEW_LIB_DIR names, by pkg-config, or where
-//! `clients/build` puts it.
+//! Finds libscaleview: in the folder that SCALEVIEW_LIB_DIR names, in a released crate, by
+//! pkg-config, or where `clients/build` puts it. DOCS_RS, which docs.rs sets, asks for none.
 
 use std::path::{Path, PathBuf};
 use std::process::{self, Command};
 use std::{env, fs};
 
 const FOLDER: &str = "SCALEVIEW_LIB_DIR";
+const DOCS: &str = "DOCS_RS";
 
 /// Links the library of a folder, the archive if it is there; returns whether one was found.
 fn link(folder: &Path) -> bool {
@@ -58,6 +59,10 @@ fn stop(reason: &str) -> ! {
 fn main() {
     println!("cargo::rerun-if-changed=build.rs");
     println!("cargo::rerun-if-env-changed={FOLDER}");
+    println!("cargo::rerun-if-env-changed={DOCS}");
+    if env::var_os(DOCS).is_some() {
+        return;
+    }
     if let Some(folder) = env::var_os(FOLDER) {
         if !link(Path::new(&folder)) {
             stop(&format!(
@@ -67,12 +72,18 @@ fn main() {
         }
         return;
     }
+    let crate_folder = PathBuf::from(env::var_os("CARGO_MANIFEST_DIR").unwrap_or_default());
+    // A released crate has a library for each platform that it names by a folder.
+    let released = crate_folder
+        .join("lib")
+        .join(env::var_os("TARGET").unwrap_or_default());
+    if released.is_dir() && link(&released) {
+        return;
+    }
     if installed().is_some_and(|folder| link(&folder)) {
         return;
     }
-    let built =
-        PathBuf::from(env::var_os("CARGO_MANIFEST_DIR").unwrap_or_default()).join("../../out");
-    if !link(&built) {
+    if !link(&crate_folder.join("../../out")) {
         stop("libscaleview was not found");
     }
 }

@@ -50,6 +50,27 @@ fn a_missing_library_is_explained() {
 }
 
 #[test]
+fn docs_need_no_library() {
+    let (built, printed) = check("docs", &[("DOCS_RS", Path::new("1"))]);
+    assert!(built, "{printed}");
+}
+
+#[test]
+fn a_released_crate_has_the_library() {
+    let cargo = Command::new(env!("CARGO")).arg("-vV").output().unwrap();
+    let said = String::from_utf8(cargo.stdout).unwrap();
+    let host = said
+        .lines()
+        .find_map(|line| line.strip_prefix("host: "))
+        .unwrap();
+    let folder = copied("released").join("lib").join(host);
+    fs::create_dir_all(&folder).unwrap();
+    fs::write(folder.join("libscaleview.a"), b"!<arch>\n").unwrap();
+    let (built, printed) = check("released", &[]);
+    assert!(built, "{printed}");
+}
+
+#[test]
 fn a_folder_without_the_library_is_named() {
     let (built, printed) = check("named", &[("SCALEVIEW_LIB_DIR", Path::new("/no/library"))]);
     let wanted =
