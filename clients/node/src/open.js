@@ -1,0 +1,166 @@
+'use strict';
+
+/* An open registry: its slot in the addon, its types and the functions that make values. */
+
+const native = require('./native');
+const { addon, words, numbers, answer, BATCH, CODE, DONE, WORDS } = native;
+const { errorOf, allocated } = require('./errors');
+const { unshared, lengthOf, LIMIT } = require('./arguments');
+const { records, input, INPUT_ROOM, grow, shrink, turnTo } = require('./records');
+const { Types } = require('./types');
+const { Readers } = require('./generator');
+const { Writer } = require('./writer');
+
+const [NO_ROOM, UNKNOWN_TYPE] = [2, 201];
+/** The slot of a closed registry. */
+const NO_SLOT = 0xffffffff;
+/** The bytes that a node's value takes at most, besides those in the pool. */
+const MOST_BYTES_OF_A_NODE = 17;
+const CODES_OF_NODES = 400;
+
+/** The error of opening a registry. A value's codes are then about what follows it in metadata. */
+function openingError(found) {
+  if (found.code < 300) return errorOf(found);
+  return errorOf(found, { part: 'registry' });
+}
+
+class Open {
+  #external;
+
+  constructor(bytes, flags, options) {
+    this.#external = addon.open(unshared(bytes), flags);
+    const found = answer();
+    if (found.code !== 0) throw openingError(found);
+    this.slot = words[native.SLOT];
+    this.version = found.from;
+    this.end = found.at;
+    this.types = new Types(this, found.length, options);
+    this.readers = new Readers(this.types);
+  }
+
+  /** Closes the registry as soon as its last session is freed. */
+  close() {
+    if (this.slot === NO_SLOT) return;
+    addon.close(this.#external);
+    this.slot = NO_SLOT;
+  }
+
+  /** States which type and limits the next call is about. */
+  state(type, limits) {
+    words[native.SLOT] = this.slot;
+    words[native.TYPE] = type;
+    words[native.DEPTH] = limits.depth;
+    numbers[native.LIMIT] = limits.limit;
+    numbers[native.MEMORY] = limits.memory;
+    numbers[native.MEMORY_OF_A_BYTE] = limits.memoryOfAByte;
+  }
+
+  /** The value of records that begin there. */
+  valueAt(type, at) {
+    const value = this.readers.of(type)(at);
+    if (records.isLarge) shrink();
+    return value;
+  }
+
+  decode(type, bytes, limits, facts) {
+    const length = lengthOf(bytes);
+    this.state(type, limits);
+    words[native.COUNT] = 1;
+    if (length <= INPUT_ROOM) {
+      input.set(bytes);
+      words[WORDS] = length;
+      addon.decode();
+    } else {
+      addon.decode(unshared(bytes));
+    }
+    if (words[CODE] === 0) return this.valueAt(type, turnTo(0));
+    if (words[CODE] !== NO_ROOM) throw errorOf(answer(), { type, ...facts });
+    grow();
+    return this.decode(type, bytes, limits, facts);
+  }
+
+  /** Appends the values of some of the inputs, from this one on, and returns how many. */
+  decodeSome(type, inputs, first, limits, values) {
+    const count = fillInput(inputs, first);
+    if (count === 0) {
+      values.push(this.decode(type, inputs[first], limits, { item: first }));
+      return 1;
+    }
+    this.state(type, limits);
+    words[native.COUNT] = count;
+    addon.decode();
+    const done = words[DONE];
+    const found = words[CODE] === 0 ? undefined : answer();
+    if (found?.code === NO_ROOM && done === 0) grow();
+    for (let i = 0; i < done; i += 1) values.push(this.readers.of(type)(turnTo(i)));
+    if (found === undefined || found.code === NO_ROOM) return done;
+    throw errorOf(found, { type, item: first + done });
+  }
+
+  decodeMany(type, inputs, limits) {
+    const values = [];
+    while (values.length < inputs.length) {
+      this.decodeSome(type, inputs, values.length, limits, values);
+    }
+    if (records.isLarge) shrink();
+    return values;
+  }
+
+  decodeJson(type, bytes, limits, facts) {
+    this.state(type, limits);
+    const text = addon.decodeText(unshared(bytes));
+    if (words[CODE] !== 0) throw errorOf(answer(), { type, ...facts });
+    return text;
+  }
+
+  /** Where the bytes of an opaque value begin, whose length stands before them. */
+  opaque(type, bytes, facts) {
+    addon.opaque(unshared(bytes));
+    const found = type < this.types.count ? answer() : { code: UNKNOWN_TYPE };
+    if (found.code !== 0) throw errorOf(found, { type, ...facts });
+    return found.at;
+  }
+
+  encode(type, value, limits) {
+    const memory = limits.memory + limits.memoryOfAByte * LIMIT;
+    const bound = { ...limits, memory, memoryOfAByte: 0 };
+    const writer = new Writer(this.types, bound);
+    if (type < this.types.count) writer.write(type, value);
+    let room = writer.length + MOST_BYTES_OF_A_NODE * writer.count;
+    for (;;) {
+      const out = allocated(() => new Uint8Array(room));
+      this.state(type, bound);
+      words[native.COUNT] = writer.count;
+      numbers[native.POOL_LENGTH] = writer.length;
+      addon.encode(writer.nodes, writer.pool, out);
+      const found = answer();
+      if (found.code === 0) return out.slice(0, found.length);
+      if (found.code !== NO_ROOM) throw encodingError(found, writer, type);
+      room = found.length;
+    }
+  }
+}
+
+function encodingError(found, writer, type) {
+  if (found.code < CODES_OF_NODES) return errorOf(found, { type });
+  const { cut: path } = writer;
+  return errorOf({ ...found, at: undefined }, { path, node: found.at });
+}
+
+/** Copies inputs to the front of the addon's, and returns how many have room there. */
+function fillInput(inputs, first) {
+  let used = 0;
+  let count = 0;
+  while (count < BATCH && first + count < inputs.length) {
+    const bytes = inputs[first + count];
+    const length = lengthOf(bytes);
+    if (used + length > INPUT_ROOM) break;
+    input.set(bytes, used);
+    words[WORDS + count] = length;
+    used += length;
+    count += 1;
+  }
+  return count;
+}
+
+module.exports = { Open };
