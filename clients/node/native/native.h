@@ -9,7 +9,7 @@
 #include <string.h>
 
 enum {
-    BATCH = 256,         /* the most values of one call of `decode` */
+    BATCH = 32,  /* the most values of one call of `decode` */
     SHALLOW = 64,        /* JSON of values up to this depth is made on the stack of the caller */
     FEW = 256,           /* names of up to this many bytes need no allocation */
     BYTES_HELD = 4,      /* bytes of memory that a registry has for each of its own bytes */

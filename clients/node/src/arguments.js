@@ -17,9 +17,6 @@ const typedArray = Object.getPrototypeOf(Uint8Array.prototype);
 const lengthGetter = Object.getOwnPropertyDescriptor(typedArray, 'length').get;
 const bufferGetter = Object.getOwnPropertyDescriptor(typedArray, 'buffer').get;
 
-/** The length of a Uint8Array, which its own properties can't change. */
-const lengthOf = Function.prototype.call.bind(lengthGetter);
-const bufferOf = Function.prototype.call.bind(bufferGetter);
 
 /** The limits where no options are given. */
 const DEFAULTS = {
@@ -75,9 +72,16 @@ function bytesOfText(text, part) {
   return allocated(() => new Uint8Array(Buffer.from(digits, 'hex')));
 }
 
+/** The length of a Uint8Array, which its own properties can't change. Detached ones are rejected. */
+function lengthOf(bytes) {
+  const length = lengthGetter.call(bytes);
+  if (length === 0) checkAttached(bytes);
+  return length;
+}
+
 /** Rejects bytes that were given away, such as to another thread. */
 function checkAttached(bytes) {
-  const buffer = bufferOf(bytes);
+  const buffer = bufferGetter.call(bytes);
   if (types.isArrayBuffer(buffer) && addon.isDetached(buffer)) {
     throw new TypeError('the bytes are detached');
   }
@@ -85,19 +89,17 @@ function checkAttached(bytes) {
 
 /** Bytes of an argument: a Uint8Array, such as a Buffer, or text of hexadecimal digits. */
 function bytesOf(data, part = 'value') {
-  if (types.isUint8Array(data)) {
-    if (lengthOf(data) === 0) checkAttached(data);
-    return data;
-  }
+  if (types.isUint8Array(data)) return data;
   if (typeof data === 'string') return bytesOfText(data, part);
   throw new TypeError('expected a Uint8Array or text of hexadecimal digits');
 }
 
 /** Bytes in memory that no other thread changes: those that threads share are copied. */
 function unshared(bytes) {
-  if (!types.isSharedArrayBuffer(bufferOf(bytes))) return bytes;
+  const length = lengthOf(bytes);
+  if (!types.isSharedArrayBuffer(bufferGetter.call(bytes))) return bytes;
   return allocated(() => {
-    const copy = new Uint8Array(lengthOf(bytes));
+    const copy = new Uint8Array(length);
     copy.set(bytes);
     return copy;
   });

@@ -58,11 +58,11 @@ class Readers {
     this.#types = types;
   }
 
-  /** The function for a type, or the interpreter while the type is new. */
-  of(type) {
+  /** The function for so many values of a type, or the interpreter while the type is new. */
+  of(type, count = 1) {
     const found = this.#functions.get(type);
     if (found !== undefined) return found;
-    const uses = (this.#uses.get(type) ?? 0) + 1;
+    const uses = (this.#uses.get(type) ?? 0) + count;
     this.#uses.set(type, uses);
     if (!isAllowed || uses <= FIRST_USES) return (at) => valueAt(this.#types, at);
     return this.generated(type);

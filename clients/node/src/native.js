@@ -14,7 +14,7 @@ function load() {
 
 const addon = load();
 
-const BATCH = 256;
+const BATCH = 32;
 const control = new ArrayBuffer(80 + 4 * (BATCH + 2 * (BATCH + 1)));
 const words = new Uint32Array(control);
 const numbers = new Float64Array(control, 0, 10);

@@ -5,7 +5,7 @@
 const native = require('./native');
 const { addon, words, numbers, answer, BATCH, CODE, DONE, WORDS } = native;
 const { errorOf, allocated } = require('./errors');
-const { unshared, lengthOf, LIMIT } = require('./arguments');
+const { bytesOf, unshared, lengthOf, LIMIT } = require('./arguments');
 const { records, input, INPUT_ROOM, grow, shrink, turnTo } = require('./records');
 const { Types } = require('./types');
 const { Readers } = require('./generator');
@@ -79,31 +79,46 @@ class Open {
     return this.decode(type, bytes, limits, facts);
   }
 
-  /** Appends the values of some of the inputs, from this one on, and returns how many. */
-  decodeSome(type, inputs, first, limits, values) {
-    const count = fillInput(inputs, first);
-    if (count === 0) {
-      values.push(this.decode(type, inputs[first], limits, { item: first }));
-      return 1;
+  /** Decodes several values. Other calls may be made while the items are iterated over. */
+  decodeMany(type, items, limits) {
+    const values = [];
+    const batch = [];
+    for (const item of items) {
+      batch.push(bytesOf(item));
+      if (batch.length < BATCH) continue;
+      this.#decodeBatch(type, batch, limits, values);
+      batch.length = 0;
     }
+    this.#decodeBatch(type, batch, limits, values);
+    return values;
+  }
+
+  /** Appends the values of a batch. */
+  #decodeBatch(type, batch, limits, values) {
+    for (let first = 0; first < batch.length;) {
+      const count = fillInput(batch, first);
+      if (count === 0) {
+        values.push(this.decode(type, batch[first], limits, { item: values.length }));
+        first += 1;
+      } else {
+        first += this.#decodeFilled(type, count, limits, values);
+      }
+    }
+  }
+
+  /** Appends the values of as many inputs as have room, and returns how many. */
+  #decodeFilled(type, count, limits, values) {
     this.state(type, limits);
     words[native.COUNT] = count;
     addon.decode();
     const done = words[DONE];
     const found = words[CODE] === 0 ? undefined : answer();
     if (found?.code === NO_ROOM && done === 0) grow();
-    for (let i = 0; i < done; i += 1) values.push(this.readers.of(type)(turnTo(i)));
-    if (found === undefined || found.code === NO_ROOM) return done;
-    throw errorOf(found, { type, item: first + done });
-  }
-
-  decodeMany(type, inputs, limits) {
-    const values = [];
-    while (values.length < inputs.length) {
-      this.decodeSome(type, inputs, values.length, limits, values);
-    }
+    const read = this.readers.of(type, done);
+    for (let i = 0; i < done; i += 1) values.push(read(turnTo(i)));
     if (records.isLarge) shrink();
-    return values;
+    if (found === undefined || found.code === NO_ROOM) return done;
+    throw errorOf(found, { type, item: values.length });
   }
 
   decodeJson(type, bytes, limits, facts) {
@@ -148,11 +163,11 @@ function encodingError(found, writer, type) {
 }
 
 /** Copies inputs to the front of the addon's, and returns how many have room there. */
-function fillInput(inputs, first) {
+function fillInput(batch, first) {
   let used = 0;
   let count = 0;
-  while (count < BATCH && first + count < inputs.length) {
-    const bytes = inputs[first + count];
+  while (first + count < batch.length) {
+    const bytes = batch[first + count];
     const length = lengthOf(bytes);
     if (used + length > INPUT_ROOM) break;
     input.set(bytes, used);

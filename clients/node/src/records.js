@@ -18,7 +18,6 @@ const MOST_POOL = 2 ** 32 - 1;
 const SHORT = 64;
 /** Texts of up to this length are looked at byte by byte, since most of them are ASCII. */
 const SHORT_TEXT = 16;
-const TWO_TO_64 = 18446744073709551616n;
 
 const inputBuffer = new ArrayBuffer(INPUT_ROOM);
 const input = new Uint8Array(inputBuffer);
@@ -78,14 +77,13 @@ function wideAt(at) {
   const { u32, u64 } = records;
   const low = u64[4 * at + 2];
   if ((u32[8 * at + 6] | u32[8 * at + 7]) === 0) return low;
-  return u64[4 * at + 3] * TWO_TO_64 + low;
+  return (u64[4 * at + 3] << 64n) | low;
 }
 
 /** A signed integer of up to 128 bits. */
 function signedAt(at) {
   const high = records.i64[4 * at + 3];
-  if (high === 0n) return records.u64[4 * at + 2];
-  return high * TWO_TO_64 + records.u64[4 * at + 2];
+  return (high << 64n) | records.u64[4 * at + 2];
 }
 
 /** An integer of 256 bits. */
@@ -93,7 +91,7 @@ function hugeAt(at, isSigned) {
   const start = records.base + records.u32[8 * at + 4];
   let number = 0n;
   for (let i = 3; i >= 0; i -= 1) {
-    number = number * TWO_TO_64 + records.text.readBigUInt64LE(start + 8 * i);
+    number = (number << 64n) | records.text.readBigUInt64LE(start + 8 * i);
   }
   return isSigned ? BigInt.asIntN(256, number) : number;
 }

@@ -95,9 +95,9 @@ class Registry {
   decodeMany(type, items, options) {
     const id = this.#idOf(type);
     const limits = limitsOf(options);
-    const inputs = Array.from(items, (item) => bytesOf(item));
-    if (!limits.opaque) return this.#open.decodeMany(id, inputs, limits);
-    return inputs.map((bytes, item) => this.#decodeOpaque(id, bytes, limits, item));
+    if (!limits.opaque) return this.#open.decodeMany(id, items, limits);
+    return Array.from(items, (bytes, item) =>
+      this.#decodeOpaque(id, bytesOf(bytes), limits, item));
   }
 
   #decodeOpaque(id, bytes, limits, item) {
