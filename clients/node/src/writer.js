@@ -27,13 +27,21 @@ function shown(value) {
   return typeof value === 'object' ? 'an object' : typeof value;
 }
 
+/** The part of a path that a level adds. */
+function partOf({ arm, fields, isNamed, isHeld, at }) {
+  const before = arm === undefined ? '' : `.${arm}`;
+  if (isHeld || at === 0) return before;
+  return before + (isNamed ? `.${fields[at - 1].name}` : `[${at - 1}]`);
+}
+
 /** Nodes and a pool that grow. */
 class Writer {
   #nodes = new ArrayBuffer(64 * NODE_BYTES);
   #u32 = new Uint32Array(this.#nodes);
   #u64 = new BigUint64Array(this.#nodes);
-  #path = [];
-  #depth = 0;
+  /** The values whose children are being written, and the variant whose fields are looked at. */
+  #levels = [];
+  #arm;
   pool = new Uint8Array(1024);
   count = 0;
   length = 0;
@@ -49,18 +57,33 @@ class Writer {
     return new Uint8Array(this.#nodes);
   }
 
+  /** Where the part is that is being written, such as "value.list[3].name". */
   get path() {
-    return `value${this.#path.map((part) =>
-      (typeof part === 'number' ? `[${part}]` : `.${part}`)).join('')}`;
+    const arm = this.#arm === undefined ? '' : `.${this.#arm}`;
+    return `value${this.#levels.map(partOf).join('')}${arm}`;
   }
 
   /** Writes a value, as far as the library takes it. */
   write(type, value) {
     try {
       this.#put(type, value);
+      while (this.#levels.length > 0) this.#writeNext(this.#levels.at(-1));
     } catch (error) {
       if (!(error instanceof Cut)) throw error;
     }
+  }
+
+  /** Writes the next child of a value. */
+  #writeNext(level) {
+    const { fields, element, source, isNamed, isHeld, at } = level;
+    if (at === level.count) {
+      this.#levels.pop();
+      return;
+    }
+    level.at += 1;
+    const type = fields === undefined ? element : fields[at].type;
+    if (isHeld) this.#put(type, source);
+    else this.#put(type, source[isNamed ? fields[at].name : at]);
   }
 
   #expected(what, value) {
@@ -119,7 +142,7 @@ class Writer {
   }
 
   #put(type, value) {
-    if (this.#depth > this.limits.depth) this.#reject(EMPTY, type);
+    if (this.#levels.length > this.limits.depth) this.#reject(EMPTY, type);
     const info = this.types.of(type);
     if (info.valueClass === 'NoValue') this.#reject(EMPTY, type);
     if (info.valueClass === 'Empty') {
@@ -133,7 +156,7 @@ class Writer {
       case 'variant': this.#putVariant(info, value); break;
       case 'bitsequence': this.#putBits(type, info, value); break;
       case 'sequence': case 'array': this.#putRun(info, value); break;
-      default: this.#putFields(this.#add(FIELDS, type, info.fields.length), info, value);
+      default: this.#putFields(FIELDS, type, info, value, 0);
     }
   }
 
@@ -241,30 +264,21 @@ class Writer {
     this.#checkLength(info, length);
     this.#checkBudget(length, 0);
     this.#add(LIST, info.type, length);
-    for (let i = 0; i < length; i += 1) this.#putChild(info.element, i, value[i]);
+    this.#levels.push({ source: value, element: info.element, count: length, at: 0 });
   }
 
-  #putChild(type, name, value) {
-    this.#path.push(name);
-    this.#depth += 1;
-    this.#put(type, value);
-    this.#depth -= 1;
-    this.#path.pop();
+  /** Adds the node of fields, whose values are written next. */
+  #putFields(kind, type, info, value, position) {
+    const { fields, areNamed: isNamed } = info;
+    const isHeld = this.types.isUnwrapped(info);
+    if (!isHeld && isNamed) this.#checkNamed(fields, value);
+    else if (!isHeld) this.#checkUnnamed(fields, value);
+    this.#add(kind, type, fields.length, position);
+    const arm = this.#arm;
+    this.#levels.push({ source: value, fields, isNamed, isHeld, arm, count: fields.length, at: 0 });
   }
 
-  /** Writes the children of a node that was added. */
-  #putFields(at, info, value) {
-    if (this.types.isUnwrapped(info)) {
-      this.#depth += 1;
-      this.#put(info.fields[0].type, value);
-      this.#depth -= 1;
-      return;
-    }
-    if (info.areNamed) this.#putNamed(info.fields, value);
-    else this.#putUnnamed(info.fields, value);
-  }
-
-  #putNamed(fields, value) {
+  #checkNamed(fields, value) {
     if (value === null || typeof value !== 'object') throw this.#expected('an object', value);
     for (const { name } of fields) {
       if (Object.hasOwn(value, name)) continue;
@@ -275,37 +289,35 @@ class Writer {
       const other = names.find((name) => !fields.some((field) => field.name === name));
       throw new TypeError(`${this.path}: there is no field ${JSON.stringify(other)}`);
     }
-    for (const { name, type } of fields) this.#putChild(type, name, value[name]);
   }
 
-  #putUnnamed(fields, value) {
+  #checkUnnamed(fields, value) {
     if (!Array.isArray(value)) throw this.#expected('an array', value);
     if (value.length !== fields.length) {
       throw new TypeError(`${this.path}: expected ${fields.length} items, not ${value.length}`);
     }
-    fields.forEach(({ type }, i) => this.#putChild(type, i, value[i]));
   }
 
   #putVariant(info, value) {
-    const held = this.types.held(info);
-    if (held !== undefined) {
-      this.#putOption(info, held, value);
+    if (this.types.held(info) !== undefined) {
+      this.#putOption(info, value);
       return;
     }
     if (value === null || typeof value !== 'object' || typeof value.type !== 'string') {
       throw this.#expected('an object with a type', value);
     }
     const arm = this.#armOf(info, value.type, value.index);
-    const at = this.#add(ARM, info.type, arm.fields.length, arm.position);
-    this.#path.push(arm.name);
-    if (arm.fields.length > 0) this.#putFields(at, arm, value.value);
-    else this.#checkNothing(value.value);
-    this.#path.pop();
+    const fields = value.value;
+    this.#arm = arm.name;
+    if (arm.fields.length > 0) this.#putFields(ARM, info.type, arm, fields, arm.position);
+    else this.#putNothing(info.type, arm.position, fields);
+    this.#arm = undefined;
   }
 
-  #checkNothing(value) {
-    if (value === undefined || (Array.isArray(value) && value.length === 0)) return;
-    throw this.#expected('no value', value);
+  #putNothing(type, position, value) {
+    const isNothing = value === undefined || (Array.isArray(value) && value.length === 0);
+    if (!isNothing) throw this.#expected('no value', value);
+    this.#add(ARM, type, 0, position);
   }
 
   #armOf({ arms }, name, index) {
@@ -316,14 +328,11 @@ class Writer {
     throw new TypeError(`${this.path}: there is no variant ${JSON.stringify(name)}${which}`);
   }
 
-  #putOption(info, held, value) {
+  #putOption(info, value) {
     const name = value === undefined ? 'None' : 'Some';
-    const { position } = info.arms.find((arm) => arm.name === name);
-    this.#add(ARM, info.type, value === undefined ? 0 : 1, position);
-    if (value === undefined) return;
-    this.#depth += 1;
-    this.#put(held, value);
-    this.#depth -= 1;
+    const { position, fields } = info.arms.find((arm) => arm.name === name);
+    this.#add(ARM, info.type, fields.length, position);
+    this.#levels.push({ source: value, fields, isHeld: true, count: fields.length, at: 0 });
   }
 }
 
