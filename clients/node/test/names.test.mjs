@@ -97,7 +97,9 @@ test('runtime calls of a small chain', () => {
   assert.deepEqual(small.encodeParams('Core.version'), new Uint8Array(0));
   assert.equal(small.result('Core.version', '05000000'), 5);
   assert.deepEqual([...small.custom], ['Owner', 'Sys.Now']);
-  assert.ok(small.custom.has('Owner'));
+  assert.deepEqual([small.custom.get('Owner'), small.custom.get('Sys.Now')], [1, 5]);
+  assert.equal(small.constants.get('Sys.Limit'), 4096);
+  assert.deepEqual(small.constants.get('Sys.Name'), Uint8Array.of(97, 98, 99));
 });
 
 test('a registry reads no names', () => {
