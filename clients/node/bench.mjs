@@ -17,7 +17,7 @@ const RUNS = 15;
 const read = (name) => readFileSync(new URL(name, EXAMPLES));
 
 function registryOf() {
-  return new Registry(read('runtime/metadata.scale'));
+  return new Registry(read('runtime/metadata.scale'), { newtypes: true });
 }
 
 function accountByHand(bytes) {
@@ -67,7 +67,8 @@ const VARIANTS = {
   'accounts decode': () => {
     const registry = registryOf();
     const items = accounts();
-    return { values: ACCOUNTS, calls: 2, call: () => items.map((item) => registry.decode(0, item)) };
+    const call = () => items.map((item) => registry.decode(0, item));
+    return { values: ACCOUNTS, calls: 2, call };
   },
   'accounts decodeMany': () => {
     const registry = registryOf();
@@ -93,13 +94,13 @@ const VARIANTS = {
     return { values: 1, calls: 200, call: () => JSON.parse(text) };
   },
   'by position': () => {
-    const metadata = new Metadata(read('chain/chain.metadata'));
+    const metadata = new Metadata(read('chain/chain.metadata'), { newtypes: true });
     const bytes = account();
     const { id } = metadata.storage.get('System.Account');
     return { values: 1, calls: 20_000, call: () => metadata.decode(id, bytes) };
   },
   'by name': () => {
-    const metadata = new Metadata(read('chain/chain.metadata'));
+    const metadata = new Metadata(read('chain/chain.metadata'), { newtypes: true });
     const bytes = account();
     const call = () => metadata.decode('storage:System.Account', bytes);
     return { values: 1, calls: 20_000, call };

@@ -1,7 +1,9 @@
 // Decodes a value as the command does, whole or in pieces, or lists the types of a registry.
 //
 //     node decode.mjs types FILE [--metadata]
-//     node decode.mjs decode FILE ID VALUEFILE [--metadata] [--bits] [--hex] [--depth D] [--pieces N]
+//     node decode.mjs decode FILE ID VALUEFILE [OPTION ..]
+//
+// Options of `decode` are --metadata, --bits, --hex, --depth D and --pieces N.
 
 import { readFileSync } from 'node:fs';
 import { parseArgs } from 'node:util';

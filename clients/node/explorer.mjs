@@ -75,13 +75,16 @@ function showAccount(metadata, key, stored) {
 function sumBalances(metadata, stored) {
   const entry = metadata.storage.get('System.Account');
   const account = entry.decode(stored);
-  const rows = Array.from({ length: ACCOUNTS }, (_, nonce) =>
-    entry.encode({ ...account, nonce, data: { ...account.data, free: 10n ** 18n + BigInt(nonce) } }));
+  const rows = Array.from({ length: ACCOUNTS }, (_, nonce) => {
+    const data = { ...account.data, free: 10n ** 18n + BigInt(nonce) };
+    return entry.encode({ ...account, nonce, data });
+  });
   const decoded = metadata.decodeMany('storage:System.Account', rows);
   const free = decoded.reduce((sum, { data }) => sum + data.free, 0n);
   const nonces = decoded.reduce((sum, { nonce }) => sum + nonce, 0);
   const each = rows[0].length;
-  console.log(`${decoded.length} accounts of ${each} bytes have ${free} free, and ${nonces} nonces`);
+  const held = `${free} free, and ${nonces} nonces`;
+  console.log(`${decoded.length} accounts of ${each} bytes have ${held}`);
 }
 
 /** Prints the error that a call throws. */

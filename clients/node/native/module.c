@@ -104,12 +104,13 @@ static const struct {
     const char *name;
     napi_callback call;
 } functions[] = {
-    {"attach", attach}, {"reason", reason}, {"isDetached", is_detached},
-    {"open", open_registry}, {"close", close_registry}, {"decode", decode},
-    {"decodeText", decode_text}, {"encode", encode}, {"start", start}, {"feed", feed},
-    {"taken", taken}, {"finish", finish}, {"finishText", finish_text}, {"end", end}, {"shape", shape},
-    {"describe", describe}, {"find", find}, {"name", name}, {"nameBytes", name_bytes},
-    {"opaque", opaque},
+    {"attach", attach},           {"reason", reason},        {"isDetached", is_detached},
+    {"open", open_registry},      {"close", close_registry}, {"decode", decode},
+    {"decodeText", decode_text},  {"encode", encode},        {"start", start},
+    {"feed", feed},               {"taken", taken},          {"finish", finish},
+    {"finishText", finish_text},  {"end", end},              {"shape", shape},
+    {"describe", describe},       {"find", find},            {"name", name},
+    {"nameBytes", name_bytes},    {"opaque", opaque},
 };
 
 NAPI_MODULE_INIT() {

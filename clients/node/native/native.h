@@ -23,7 +23,7 @@ struct control {
     uint32_t code, from, done, unused;
     double at, length, pool_length;
     double limit, memory, memory_of_a_byte;
-    uint32_t words[BATCH];     /* the lengths of the inputs of `decode`, and numbers of other calls */
+    uint32_t words[BATCH];     /* lengths of the inputs of `decode`, and numbers of other calls */
     uint32_t nodes[BATCH + 1]; /* where the nodes of each value begin */
     uint32_t pools[BATCH + 1]; /* where the bytes of each value begin in the pool */
 };
@@ -52,7 +52,7 @@ struct state {
     size_t node_room, pool_room, input_room;
     napi_ref buffers[4]; /* which keep the memory above */
     struct shared **slots;
-    uint32_t slot_room;
+    uint32_t slot_room, free_slot; /* no slot before `free_slot` is free */
 };
 
 struct bytes {

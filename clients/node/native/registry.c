@@ -24,6 +24,7 @@ void release(napi_env env, struct shared *shared) {
     scaleview_close(&shared->registry);
     napi_adjust_external_memory(env, -shared->held, &total);
     state->slots[shared->slot] = NULL;
+    if (shared->slot < state->free_slot) state->free_slot = shared->slot;
     free(shared);
     release_state(state);
 }
@@ -44,13 +45,16 @@ static void drop_registry(napi_env env, void *data, void *hint) {
 /* Finds a free slot for a registry. */
 static bool take_slot(struct state *state, uint32_t *slot) {
     uint32_t room = state->slot_room;
-    for (*slot = 0; *slot < room; ++*slot) {
-        if (!state->slots[*slot]) return true;
+    for (*slot = state->free_slot; *slot < room; ++*slot) {
+        if (state->slots[*slot]) continue;
+        state->free_slot = *slot;
+        return true;
     }
     struct shared **slots = realloc(state->slots, (2 * (size_t)room + 8) * sizeof *slots);
     if (!slots) return false;
     state->slots = slots;
     state->slot_room = 2 * room + 8;
+    state->free_slot = room;
     memset(slots + room, 0, (state->slot_room - room) * sizeof *slots);
     return true;
 }

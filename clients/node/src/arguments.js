@@ -72,7 +72,7 @@ function bytesOfText(text, part) {
   return allocated(() => new Uint8Array(Buffer.from(digits, 'hex')));
 }
 
-/** The length of a Uint8Array, which its own properties can't change. Detached ones are rejected. */
+/** The length of a Uint8Array, whatever its own properties say. Detached ones are rejected. */
 function lengthOf(bytes) {
   const length = lengthGetter.call(bytes);
   if (length === 0) checkAttached(bytes);

@@ -138,7 +138,8 @@ class Types {
   #formOf({ element, order }) {
     if (!this.hasBits || element >= this.count || order >= this.count) return undefined;
     const store = shapeOf(this.#open.slot, element);
-    if (store.kind !== 'primitive' || store.primitive < U8 || store.primitive > U64) return undefined;
+    const isWord = store.primitive >= U8 && store.primitive <= U64;
+    if (store.kind !== 'primitive' || !isWord) return undefined;
     const { kind, parts } = shapeOf(this.#open.slot, order);
     const last = this.path(order).split('::').at(-1);
     const isKnown = last === 'Lsb0' || last === 'Msb0';

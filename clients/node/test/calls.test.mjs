@@ -66,7 +66,9 @@ test('wrong arguments are TypeErrors', () => {
     assert.throws(() => registry.decode(0, wrong), TypeError);
     assert.throws(() => new Registry(wrong), TypeError);
   }
-  const options = [null, 1, { depth: '1' }, { depth: -1 }, { bytes: 0.5 }, { memory: -1 }, { opaque: 1 }];
+  const options = [
+    null, 1, { depth: '1' }, { depth: -1 }, { bytes: 0.5 }, { memory: -1 }, { opaque: 1 },
+  ];
   for (const wrong of options) assert.throws(() => registry.decode(0, '01', wrong), TypeError);
   for (const wrong of [{ bits: 1 }, { newtypes: 0 }, { metadata: 'x' }]) {
     assert.throws(() => new Registry(TYPES, wrong), TypeError);
@@ -159,8 +161,9 @@ test('a closed registry is rejected, and its decoders go on', () => {
   registry.close();
   const other = new Registry(TYPES);
   for (const call of [
-    () => registry.decode(2, '010402'), () => registry.encode(0, 1), () => registry.decodeJson(0, '01'),
-    () => registry.decodeMany(0, ['01']), () => new Decoder(registry, 0), () => String(registry.type(0)),
+    () => registry.decode(2, '010402'), () => registry.encode(0, 1),
+    () => registry.decodeJson(0, '01'), () => registry.decodeMany(0, ['01']),
+    () => new Decoder(registry, 0), () => String(registry.type(0)),
   ]) assert.throws(call, { name: 'TypeError', message: 'the registry is closed' });
   assert.equal(decoder.write('0401'), 2);
   assert.deepEqual(decoder.end(), Uint8Array.of(1));

@@ -72,7 +72,8 @@ test('a field that an object inherits is missing', () => {
 test('half a surrogate is no name, no text and no path', () => {
   const half = registryOf(primitive('u8'), composite([[0xed, 0xa0, 0x80], 0]));
   assert.throws(() => new Registry(half), { name: 'BadUtf8', part: 'registry' });
-  const registry = new Registry(registryOf(primitive('str'), { path: ['\ufffd'], of: primitive('u8') }));
+  const named = { path: ['\ufffd'], of: primitive('u8') };
+  const registry = new Registry(registryOf(primitive('str'), named));
   assert.throws(() => registry.encode(0, '\ud800'), TypeError);
   assert.equal(registry.find('\ud800'), undefined);
   assert.equal(registry.find('\ufffd').id, 1);
@@ -135,7 +136,8 @@ test('a length that an array states of itself is not believed', () => {
 });
 
 test('calls may be made while items and values are read', () => {
-  const registry = new Registry(registryOf(primitive('u8'), sequence(0), composite(['a', 1], ['b', 0])));
+  const pair = composite(['a', 1], ['b', 0]);
+  const registry = new Registry(registryOf(primitive('u8'), sequence(0), pair));
   function* items() {
     for (let i = 0; i < 100; i += 1) {
       assert.deepEqual(registry.decode(1, '04ff'), Uint8Array.of(255));
@@ -144,6 +146,9 @@ test('calls may be made while items and values are read', () => {
   }
   const expected = Array.from({ length: 100 }, (_, i) => Uint8Array.of(i));
   assert.deepEqual(registry.decodeMany(1, items()), expected);
-  const value = { a: Uint8Array.of(1), get b() { return registry.encode(1, Uint8Array.of(7))[1]; } };
+  const value = {
+    a: Uint8Array.of(1),
+    get b() { return registry.encode(1, Uint8Array.of(7))[1]; },
+  };
   assert.deepEqual(registry.encode(2, value), Uint8Array.of(4, 1, 7));
 });

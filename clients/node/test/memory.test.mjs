@@ -12,7 +12,8 @@ const TURNS = 100;
 const IN_A_TURN = 1_000;
 const MOST_GROWTH = 16 << 20;
 
-const registryBytes = readFileSync(new URL('../../../examples/account/registry.scale', import.meta.url));
+const FILE = new URL('../../../examples/account/registry.scale', import.meta.url);
+const registryBytes = readFileSync(FILE);
 
 function openAndDrop() {
   for (let i = 0; i < IN_A_TURN / 2; i += 1) {

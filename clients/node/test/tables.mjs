@@ -107,7 +107,7 @@ function textOfVariant(value, type) {
 
 function textOfInteger(value, kind) {
   const isNumber = ['u8', 'u16', 'u32', 'i8', 'i16', 'i32'].includes(kind);
-  if (typeof value !== (isNumber ? 'number' : 'bigint')) throw new Error('the wrong kind of number');
+  if (typeof value !== (isNumber ? 'number' : 'bigint')) throw new Error('the wrong type');
   if (kind === 'u256' || kind === 'i256') {
     return `"0x${BigInt.asUintN(256, value).toString(16).padStart(64, '0')}"`;
   }

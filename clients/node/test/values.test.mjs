@@ -74,7 +74,8 @@ test('texts, bytes, arrays and nothing', () => {
 test('composites and variants', () => {
   const registry = new Registry(registryOf(
     primitive('u8'), composite(['b', 0], ['a', 0]), composite([undefined, 0], [undefined, 0]),
-    variant(['A', [], 0], ['B', [['x', 0]], 7], ['C', [[undefined, 0]], 2]), composite([undefined, 3]),
+    variant(['A', [], 0], ['B', [['x', 0]], 7], ['C', [[undefined, 0]], 2]),
+    composite([undefined, 3]),
     variant(['A', [[undefined, 0]], 0], ['A', [[undefined, 0]], 1]), sequence(3),
     composite(['list', 6], ['last', 3]), composite(['a', 0], ['a', 0]),
   ));
@@ -92,7 +93,8 @@ test('composites and variants', () => {
 });
 
 test('newtypes are what they hold where that is asked for', () => {
-  const types = registryOf(primitive('u8'), composite([undefined, 0]), variant(['A', [[undefined, 1]], 0]));
+  const arm = variant(['A', [[undefined, 1]], 0]);
+  const types = registryOf(primitive('u8'), composite([undefined, 0]), arm);
   check(new Registry(types), 2, [0, 5], { type: 'A', value: [[5]] });
   check(new Registry(types, { newtypes: true }), 2, [0, 5], { type: 'A', value: 5 });
 });
@@ -148,7 +150,8 @@ test('bytes of any length stand in memory of their own', () => {
 
 test('large values need larger buffers, which are given back', () => {
   const { records } = require('../src/records.js');
-  const registry = new Registry(registryOf(primitive('u8'), sequence(0), primitive('bool'), sequence(2)));
+  const types = registryOf(primitive('u8'), sequence(0), primitive('bool'), sequence(2));
+  const registry = new Registry(types);
   const bytes = new Uint8Array(9_000_000).fill(7);
   assert.deepEqual(registry.decode(1, registry.encode(1, bytes)), bytes);
   const booleans = new Array(400_000).fill(true);

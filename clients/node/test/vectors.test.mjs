@@ -102,8 +102,8 @@ function lineOf([name, ...rest]) {
 function runLine({ name, options, flags }, file, value) {
   const bits = flags.has('--bits');
   const isId = /^\d+$/.test(name);
-  const registry = isId
-    ? new Registry(file, { metadata: flags.has('--metadata'), bits }) : new Metadata(file, { bits });
+  const metadata = flags.has('--metadata');
+  const registry = isId ? new Registry(file, { metadata, bits }) : new Metadata(file, { bits });
   const type = isId ? registry.type(Number(name)) : registry.typeOf(name);
   const data = isId || flags.has('v') ? value : type.bytes;
   const json = registry.decodeJson(type, data, options);
