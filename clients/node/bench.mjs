@@ -4,7 +4,9 @@
 //
 //     node clients/node/bench.mjs
 
+import assert from 'node:assert/strict';
 import { fork } from 'node:child_process';
+import { once } from 'node:events';
 import { readFileSync } from 'node:fs';
 import { fileURLToPath } from 'node:url';
 import { Metadata, Registry } from 'scaleview';
@@ -12,7 +14,7 @@ import { Metadata, Registry } from 'scaleview';
 const EXAMPLES = new URL('../../examples/', import.meta.url);
 const ACCOUNTS = 10_000;
 const WARM_UP = 2_000;
-const RUNS = 15;
+const RUNS = 60;
 
 const read = (name) => readFileSync(new URL(name, EXAMPLES));
 
@@ -136,16 +138,10 @@ function serve(name) {
   process.send(kept === undefined ? 'nothing' : 'ready');
 }
 
-function nextMessage(child) {
-  return new Promise((resolve, reject) => {
-    child.once('message', resolve);
-    child.once('exit', () => reject(new Error('a variant has ended')));
-  });
-}
-
 async function runOnce(child) {
   child.send('run');
-  return nextMessage(child);
+  const [time] = await once(child, 'message');
+  return time;
 }
 
 async function measure() {
@@ -153,7 +149,7 @@ async function measure() {
   const children = new Map();
   for (const name of Object.keys(VARIANTS)) {
     const child = fork(fileURLToPath(import.meta.url), [name]);
-    await nextMessage(child);
+    await once(child, 'message');
     children.set(name, child);
   }
   for (let i = 0; i < RUNS; i += 1) {
@@ -166,6 +162,7 @@ async function measure() {
 }
 
 async function main() {
+  assert.deepEqual(registryOf().decode(0, account()), accountByHand(account()));
   const best = await measure();
   for (const [name, time] of best) console.log(`${name}: ${time.toFixed(0)} ns`);
   for (const [name, other, most] of RATIOS) {

@@ -8,13 +8,14 @@ const { ScaleviewError, limitOutOfRange, allocated } = require('./errors');
 const DEPTH = 64;
 const MOST_DEPTH = 1024;
 const LIMIT = 2 ** 24;
+/** The bytes that the default budget of `encode` is for. */
+const MOST_ENCODED = LIMIT;
 const MOST_LIMIT = 2 ** 40;
 const MEMORY = 2 ** 26;
 const MEMORY_OF_A_BYTE = 64;
 const MOST_MEMORY = Number.MAX_SAFE_INTEGER;
 
 const typedArray = Object.getPrototypeOf(Uint8Array.prototype);
-const lengthGetter = Object.getOwnPropertyDescriptor(typedArray, 'length').get;
 const bufferGetter = Object.getOwnPropertyDescriptor(typedArray, 'buffer').get;
 
 
@@ -72,9 +73,9 @@ function bytesOfText(text, part) {
   return allocated(() => new Uint8Array(Buffer.from(digits, 'hex')));
 }
 
-/** The length of a Uint8Array, whatever its own properties say. Detached ones are rejected. */
+/** The length of a Uint8Array. Detached ones are rejected. */
 function lengthOf(bytes) {
-  const length = lengthGetter.call(bytes);
+  const { length } = bytes;
   if (length === 0) checkAttached(bytes);
   return length;
 }
@@ -89,7 +90,7 @@ function checkAttached(bytes) {
 
 /** Bytes of an argument: a Uint8Array, such as a Buffer, or text of hexadecimal digits. */
 function bytesOf(data, part = 'value') {
-  if (types.isUint8Array(data)) return data;
+  if (data instanceof Uint8Array || types.isUint8Array(data)) return data;
   if (typeof data === 'string') return bytesOfText(data, part);
   throw new TypeError('expected a Uint8Array or text of hexadecimal digits');
 }
@@ -111,4 +112,4 @@ function utf8Of(name) {
   return name.isWellFormed() ? new Uint8Array(Buffer.from(name)) : undefined;
 }
 
-module.exports = { limitsOf, limitsOfUnknown, bytesOf, unshared, lengthOf, utf8Of, DEPTH, LIMIT };
+module.exports = { limitsOf, limitsOfUnknown, bytesOf, unshared, lengthOf, utf8Of, MOST_ENCODED };

@@ -47,8 +47,8 @@ const isAllowed = mayGenerate();
 
 /** The functions that make the values of a registry's types. */
 class Readers {
-  /** A function for each type that was met, and for each arm. */
-  #functions = new Map();
+  /** The function of each type that has one. */
+  functions;
   #arms = new Map();
   #uses = new Map();
   #sizes = new Map();
@@ -56,12 +56,12 @@ class Readers {
 
   constructor(types) {
     this.#types = types;
+    this.functions = new Array(types.count).fill(undefined);
   }
 
   /** The function for so many values of a type, or the interpreter while the type is new. */
   of(type, count = 1) {
-    const found = this.#functions.get(type);
-    if (found !== undefined) return found;
+    if (this.functions[type] !== undefined) return this.functions[type];
     const uses = (this.#uses.get(type) ?? 0) + count;
     this.#uses.set(type, uses);
     if (!isAllowed || uses <= FIRST_USES) return (at) => valueAt(this.#types, at);
@@ -70,12 +70,8 @@ class Readers {
 
   /** The generated function for a type. */
   generated(type) {
-    let found = this.#functions.get(type);
-    if (found === undefined) {
-      found = this.#compile(this.#bodyOf(this.#types.of(type)));
-      this.#functions.set(type, found);
-    }
-    return found;
+    this.functions[type] ??= this.#compile(this.#bodyOf(this.#types.of(type)));
+    return this.functions[type];
   }
 
   #arm(info, position) {

@@ -2,10 +2,12 @@
 
 /* An open registry: its slot in the addon, its types and the functions that make values. */
 
-const native = require('./native');
-const { addon, words, numbers, answer, BATCH, CODE, DONE, WORDS } = native;
+const {
+  addon, words, numbers, answer, BATCH, SLOT, TYPE, DEPTH, COUNT, CODE, DONE, WORDS,
+  POOL_LENGTH, LIMIT, MEMORY, MEMORY_OF_A_BYTE,
+} = require('./native');
 const { errorOf, allocated } = require('./errors');
-const { bytesOf, unshared, lengthOf, LIMIT } = require('./arguments');
+const { bytesOf, unshared, lengthOf, MOST_ENCODED } = require('./arguments');
 const { records, input, INPUT_ROOM, grow, shrink, turnTo } = require('./records');
 const { Types } = require('./types');
 const { Readers } = require('./generator');
@@ -31,7 +33,7 @@ class Open {
     this.#external = addon.open(unshared(bytes), flags);
     const found = answer();
     if (found.code !== 0) throw openingError(found);
-    this.slot = words[native.SLOT];
+    this.slot = words[SLOT];
     this.version = found.from;
     this.end = found.at;
     this.types = new Types(this, found.length, options);
@@ -47,17 +49,17 @@ class Open {
 
   /** States which type and limits the next call is about. */
   state(type, limits) {
-    words[native.SLOT] = this.slot;
-    words[native.TYPE] = type;
-    words[native.DEPTH] = limits.depth;
-    numbers[native.LIMIT] = limits.limit;
-    numbers[native.MEMORY] = limits.memory;
-    numbers[native.MEMORY_OF_A_BYTE] = limits.memoryOfAByte;
+    words[SLOT] = this.slot;
+    words[TYPE] = type;
+    words[DEPTH] = limits.depth;
+    numbers[LIMIT] = limits.limit;
+    numbers[MEMORY] = limits.memory;
+    numbers[MEMORY_OF_A_BYTE] = limits.memoryOfAByte;
   }
 
   /** The value of records that begin there. */
   valueAt(type, at) {
-    const value = this.readers.of(type)(at);
+    const value = (this.readers.functions[type] ?? this.readers.of(type))(at);
     if (records.isLarge) shrink();
     return value;
   }
@@ -65,7 +67,7 @@ class Open {
   decode(type, bytes, limits, facts) {
     const length = lengthOf(bytes);
     this.state(type, limits);
-    words[native.COUNT] = 1;
+    words[COUNT] = 1;
     if (length <= INPUT_ROOM) {
       input.set(bytes);
       words[WORDS] = length;
@@ -109,7 +111,7 @@ class Open {
   /** Appends the values of as many inputs as have room, and returns how many. */
   #decodeFilled(type, count, limits, values) {
     this.state(type, limits);
-    words[native.COUNT] = count;
+    words[COUNT] = count;
     addon.decode();
     const done = words[DONE];
     const found = words[CODE] === 0 ? undefined : answer();
@@ -137,7 +139,7 @@ class Open {
   }
 
   encode(type, value, limits) {
-    const memory = limits.memory + limits.memoryOfAByte * LIMIT;
+    const memory = limits.memory + limits.memoryOfAByte * MOST_ENCODED;
     const bound = { ...limits, memory, memoryOfAByte: 0 };
     const writer = new Writer(this.types, bound);
     if (type < this.types.count) writer.write(type, value);
@@ -145,8 +147,8 @@ class Open {
     for (;;) {
       const out = allocated(() => new Uint8Array(room));
       this.state(type, bound);
-      words[native.COUNT] = writer.count;
-      numbers[native.POOL_LENGTH] = writer.length;
+      words[COUNT] = writer.count;
+      numbers[POOL_LENGTH] = writer.length;
       addon.encode(writer.nodes, writer.pool, out);
       const found = answer();
       if (found.code === 0) return out.slice(0, found.length);

@@ -18,6 +18,7 @@ function check(registry, type, bytes, expected) {
   const data = Uint8Array.from(bytes);
   const open = openOf(registry);
   const { readers } = open;
+  readers.functions = [];
   readers.of = () => (at) => valueAt(open.types, at);
   assert.deepEqual(registry.decode(type, data), expected);
   if (isAllowed) {
