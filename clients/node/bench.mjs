@@ -14,7 +14,7 @@ import { Metadata, Registry } from 'scaleview';
 const EXAMPLES = new URL('../../examples/', import.meta.url);
 const ACCOUNTS = 10_000;
 const WARM_UP = 2_000;
-const RUNS = 60;
+const RUNS = 200;
 
 const read = (name) => readFileSync(new URL(name, EXAMPLES));
 
@@ -56,56 +56,56 @@ const VARIANTS = {
   'account decode': () => {
     const registry = registryOf();
     const bytes = account();
-    return { values: 1, calls: 20_000, call: () => registry.decode(0, bytes) };
+    return { values: 1, calls: 2_000, call: () => registry.decode(0, bytes) };
   },
   'account JSON.parse': () => {
     const text = registryOf().decodeJson(0, account());
-    return { values: 1, calls: 20_000, call: () => JSON.parse(text) };
+    return { values: 1, calls: 2_000, call: () => JSON.parse(text) };
   },
   'account by hand': () => {
     const bytes = account();
-    return { values: 1, calls: 20_000, call: () => accountByHand(bytes) };
+    return { values: 1, calls: 2_000, call: () => accountByHand(bytes) };
   },
   'accounts decode': () => {
     const registry = registryOf();
     const items = accounts();
     const call = () => items.map((item) => registry.decode(0, item));
-    return { values: ACCOUNTS, calls: 2, call };
+    return { values: ACCOUNTS, calls: 1, call };
   },
   'accounts decodeMany': () => {
     const registry = registryOf();
     const items = accounts();
-    return { values: ACCOUNTS, calls: 2, call: () => registry.decodeMany(0, items) };
+    return { values: ACCOUNTS, calls: 1, call: () => registry.decodeMany(0, items) };
   },
   'accounts JSON.parse': () => {
     const registry = registryOf();
     const texts = accounts().map((item) => registry.decodeJson(0, item));
-    return { values: ACCOUNTS, calls: 2, call: () => texts.map((text) => JSON.parse(text)) };
+    return { values: ACCOUNTS, calls: 1, call: () => texts.map((text) => JSON.parse(text)) };
   },
   'accounts by hand': () => {
     const items = accounts();
-    return { values: ACCOUNTS, calls: 2, call: () => items.map(accountByHand) };
+    return { values: ACCOUNTS, calls: 1, call: () => items.map(accountByHand) };
   },
   'events decode': () => {
     const registry = registryOf();
     const bytes = Uint8Array.from(read('runtime/events_block.scale'));
-    return { values: 1, calls: 200, call: () => registry.decode(10, bytes) };
+    return { values: 1, calls: 20, call: () => registry.decode(10, bytes) };
   },
   'events JSON.parse': () => {
     const text = read('runtime/events_block.json').toString();
-    return { values: 1, calls: 200, call: () => JSON.parse(text) };
+    return { values: 1, calls: 20, call: () => JSON.parse(text) };
   },
   'by position': () => {
     const metadata = new Metadata(read('chain/chain.metadata'), { newtypes: true });
     const bytes = account();
     const { id } = metadata.storage.get('System.Account');
-    return { values: 1, calls: 20_000, call: () => metadata.decode(id, bytes) };
+    return { values: 1, calls: 2_000, call: () => metadata.decode(id, bytes) };
   },
   'by name': () => {
     const metadata = new Metadata(read('chain/chain.metadata'), { newtypes: true });
     const bytes = account();
     const call = () => metadata.decode('storage:System.Account', bytes);
-    return { values: 1, calls: 20_000, call };
+    return { values: 1, calls: 2_000, call };
   },
 };
 

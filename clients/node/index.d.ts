@@ -103,7 +103,7 @@ export class Registry {
     type: TypeName, bytes: Bytes, options?: Limits,
   ): { value: T; length: number };
   encode(type: TypeName, value: Value, options?: Limits): Uint8Array;
-  /** Closes the registry. Decoders of it go on. */
+  /** Closes the registry, so that neither it nor its decoders can be used. */
   close(): void;
 }
 

@@ -92,24 +92,32 @@ class Readers {
   }
 
   /** How many nodes each value of a type has, or 0 if their number varies or is large. */
-  #sizeOf(type) {
+  #sizeOf(type, depth = 0) {
     const known = this.#sizes.get(type);
     if (known !== undefined) return known;
-    this.#sizes.set(type, 0);
-    const size = this.#measure(this.#types.of(type));
+    const info = this.#types.of(type);
+    if (this.#isLeaf(info)) return 1;
+    // A type of so many levels has more nodes. It may be smaller where it stands elsewhere.
+    if (depth > MOST_INLINE) return 0;
+    const size = this.#sizeOfFields(info, depth);
     this.#sizes.set(type, size);
     return size;
   }
 
-  #measure(info) {
+  /** Whether each value of a type is one node without children. */
+  #isLeaf(info) {
     const { kind, valueClass } = info;
-    if (valueClass === 'NoValue') return 0;
-    if (valueClass === 'Empty' || kind === 'primitive' || kind === 'compact') return 1;
-    if (kind === 'bitsequence' || this.#types.isBytes(info) || this.#isCount(info)) return 1;
-    if (kind !== 'composite' && kind !== 'tuple') return 0;
+    if (valueClass === 'Empty') return true;
+    if (kind === 'primitive' || kind === 'compact' || kind === 'bitsequence') return true;
+    return this.#types.isBytes(info) || this.#isCount(info);
+  }
+
+  #sizeOfFields({ kind, valueClass, fields }, depth) {
+    const hasFields = kind === 'composite' || kind === 'tuple';
+    if (!hasFields || valueClass === 'NoValue') return 0;
     let size = 1;
-    for (const field of info.fields) {
-      const of = this.#sizeOf(field.type);
+    for (const { type } of fields) {
+      const of = this.#sizeOf(type, depth + 1);
       if (of === 0 || size + of > MOST_INLINE) return 0;
       size += of;
     }

@@ -40,9 +40,13 @@ class Open {
     this.readers = new Readers(this.types);
   }
 
-  /** Closes the registry as soon as its last session is freed. */
+  get isClosed() {
+    return this.slot === NO_SLOT;
+  }
+
+  /** Closes the registry. Its memory is freed with its last session. */
   close() {
-    if (this.slot === NO_SLOT) return;
+    if (this.isClosed) return;
     addon.close(this.#external);
     this.slot = NO_SLOT;
   }
@@ -161,7 +165,7 @@ class Open {
 function encodingError(found, writer, type) {
   if (found.code < CODES_OF_NODES) return errorOf(found, { type });
   const { cut: path } = writer;
-  return errorOf({ ...found, at: undefined }, { path, node: found.at });
+  return errorOf(found, { path });
 }
 
 /** Copies inputs to the front of the addon's, and returns how many have room there. */

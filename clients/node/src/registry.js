@@ -125,7 +125,7 @@ class Registry {
     return this.#open.encode(this.#idOf(type), value, limitsOf(options));
   }
 
-  /** Closes the registry. Decoders of it go on. */
+  /** Closes the registry, so that neither it nor its decoders can be used. */
   close() {
     this.#open.close();
   }

@@ -23,16 +23,22 @@ class Session {
     if (words[CODE] !== 0) throw errorOf(answer(), { type });
   }
 
+  /** The session, unless its registry is closed. */
+  #opened() {
+    if (this.#open.isClosed) throw new TypeError('the registry is closed');
+    return this.#external;
+  }
+
   /** Feeds a piece, and returns how many of its bytes end the value, or undefined. */
   feed(bytes, before = 0) {
-    addon.feed(this.#external, unshared(bytes));
+    addon.feed(this.#opened(), unshared(bytes));
     if (words[CODE] > MORE) throw errorOf(answer(), { before });
     return words[CODE] === MORE ? undefined : numbers[LENGTH];
   }
 
   /** Ends the value and returns it. */
   value(before = 0) {
-    addon.finish(this.#external);
+    addon.finish(this.#opened());
     if (words[CODE] === NO_ROOM) {
       grow();
       addon.finish(this.#external);
@@ -44,7 +50,7 @@ class Session {
   /** Ends the value and returns its JSON. */
   json() {
     this.#open.state(this.#type, this.#limits);
-    const text = addon.finishText(this.#external);
+    const text = addon.finishText(this.#opened());
     if (words[CODE] !== 0) throw errorOf(answer());
     return text;
   }

@@ -153,7 +153,7 @@ test('wrong values are named by their path', () => {
   assert.throws(() => registry.encode(4, circular), { name: 'TooDeep' });
 });
 
-test('a closed registry is rejected, and its decoders go on', () => {
+test('a closed registry is rejected, and so are its decoders', () => {
   const registry = new Registry(TYPES);
   const decoder = new Decoder(registry, 1);
   registry.decode(2, '010402');
@@ -165,10 +165,11 @@ test('a closed registry is rejected, and its decoders go on', () => {
     () => registry.decodeJson(0, '01'), () => registry.decodeMany(0, ['01']),
     () => new Decoder(registry, 0), () => String(registry.type(0)),
   ]) assert.throws(call, { name: 'TypeError', message: 'the registry is closed' });
-  assert.equal(decoder.write('0401'), 2);
-  assert.deepEqual(decoder.end(), Uint8Array.of(1));
+  for (const call of [() => decoder.write('0401'), () => decoder.end(), () => decoder.endJson()]) {
+    assert.throws(call, { name: 'TypeError', message: 'the registry is closed' });
+  }
   decoder.close();
-  assert.throws(() => decoder.end(), TypeError);
+  assert.throws(() => decoder.end(), { name: 'TypeError', message: 'the decoder is closed' });
   assert.equal(other.decode(0, '01'), 1);
 });
 

@@ -6,7 +6,7 @@ import { createRequire } from 'node:module';
 import { fileURLToPath } from 'node:url';
 import { test } from 'node:test';
 import { Registry } from 'scaleview';
-import { composite, primitive, registryOf, sequence, variant } from './builder.mjs';
+import { composite, option, primitive, registryOf, sequence, variant } from './builder.mjs';
 
 const require = createRequire(import.meta.url);
 const { isAllowed } = require('../src/generator.js');
@@ -67,6 +67,20 @@ test('a field that an object inherits is missing', () => {
   const message = 'value: the field "toString" is missing';
   assert.throws(() => registry.encode(1, {}), { name: 'TypeError', message });
   assert.throws(() => registry.encode(1, { toString: 1, b: 2 }), TypeError);
+});
+
+test('a type of very many levels that a value does not have', () => {
+  const levels = Array.from({ length: 20_000 }, (_, id) => composite([undefined, id]));
+  const last = levels.length;
+  const types = registryOf(primitive('u8'), ...levels, option(last), composite(['a', last + 1]));
+  const registry = new Registry(types);
+  for (let i = 0; i < USES; i += 1) {
+    assert.equal(registry.decode(last + 1, '00'), undefined);
+    assert.deepEqual(registry.decode(last + 2, '00'), { a: undefined });
+    assert.throws(() => registry.decode(last + 1, '0100'), { name: 'TooDeep' });
+    assert.deepEqual(registry.decode(40, '07', { depth: 64 }).flat(Infinity), [7]);
+    assert.deepEqual(registry.decode(60, '07', { depth: 64 }).flat(Infinity), [7]);
+  }
 });
 
 test('half a surrogate is no name, no text and no path', () => {
