@@ -16,6 +16,7 @@ const MEMORY_OF_A_BYTE = 64;
 const MOST_MEMORY = Number.MAX_SAFE_INTEGER;
 
 const typedArray = Object.getPrototypeOf(Uint8Array.prototype);
+const lengthGetter = Object.getOwnPropertyDescriptor(typedArray, 'length').get;
 const bufferGetter = Object.getOwnPropertyDescriptor(typedArray, 'buffer').get;
 
 
@@ -73,9 +74,9 @@ function bytesOfText(text, part) {
   return allocated(() => new Uint8Array(Buffer.from(digits, 'hex')));
 }
 
-/** The length of a Uint8Array. Detached ones are rejected. */
+/** The length of a Uint8Array, whatever its own properties say. Detached ones are rejected. */
 function lengthOf(bytes) {
-  const { length } = bytes;
+  const length = lengthGetter.call(bytes);
   if (length === 0) checkAttached(bytes);
   return length;
 }
@@ -90,7 +91,7 @@ function checkAttached(bytes) {
 
 /** Bytes of an argument: a Uint8Array, such as a Buffer, or text of hexadecimal digits. */
 function bytesOf(data, part = 'value') {
-  if (data instanceof Uint8Array || types.isUint8Array(data)) return data;
+  if (types.isUint8Array(data)) return data;
   if (typeof data === 'string') return bytesOfText(data, part);
   throw new TypeError('expected a Uint8Array or text of hexadecimal digits');
 }

@@ -141,6 +141,16 @@ test('bytes that threads share are copied', () => {
   }
 });
 
+test('a length that an array states of itself is not believed', () => {
+  const registry = new Registry(registryOf(primitive('u8'), sequence(0)));
+  registry.decode(1, '0c010203');
+  const bytes = Uint8Array.of(12, 9);
+  Object.defineProperty(bytes, 'length', { value: 4 });
+  assert.throws(() => registry.decode(1, bytes), { name: 'Truncated', place: 2 });
+  const none = Object.create(Uint8Array.prototype, { length: { value: 4 } });
+  assert.throws(() => registry.decode(1, none), TypeError);
+});
+
 test('calls may be made while items and values are read', () => {
   const pair = composite(['a', 1], ['b', 0]);
   const registry = new Registry(registryOf(primitive('u8'), sequence(0), pair));
