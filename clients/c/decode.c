@@ -51,11 +51,13 @@ static int refuse(scaleview_answer answer, uint32_t type) {
         fprintf(stderr, "scaleview: check: UnknownType %llu in type %u\n", at, answer.from);
     else if (code == SCALEVIEW_UNKNOWN_TYPE)
         fprintf(stderr, "scaleview: type: UnknownType %u\n", type);
+    else if (code == SCALEVIEW_REGISTRY_TOO_LARGE)
+        fprintf(stderr, "scaleview: registry: TooLarge\n");
     else if (code == SCALEVIEW_MEMORY)
         fprintf(stderr, "scaleview: memory\n");
     else
         fprintf(stderr, "scaleview: code %u\n", code);
-    return code == SCALEVIEW_MEMORY ? 4 : 1;
+    return code == SCALEVIEW_MEMORY || code == SCALEVIEW_REGISTRY_TOO_LARGE ? 4 : 1;
 }
 
 /* More room, where a text wants it. */

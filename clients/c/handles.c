@@ -136,7 +136,8 @@ static void check_names(void) {
                  {SCALEVIEW_REGISTRY_COMPACT_NOT_SHORTEST, "CompactNotShortest"},
                  {SCALEVIEW_REGISTRY_UNKNOWN_REFERENCE, "UnknownType"},
                  {SCALEVIEW_METADATA_UNKNOWN_REFERENCE, "UnknownReference"},
-                 {SCALEVIEW_METADATA_UNKNOWN_REFERENCE + 1, ""},
+                 {SCALEVIEW_REGISTRY_TOO_LARGE, "TooLarge"},
+                 {SCALEVIEW_REGISTRY_TOO_LARGE + 1, ""},
                  {SCALEVIEW_UNKNOWN_TYPE, "UnknownType"},
                  {SCALEVIEW_LIMIT_OUT_OF_RANGE, "LimitOutOfRange"},
                  {SCALEVIEW_UNKNOWN_NAME, "UnknownName"},
@@ -345,6 +346,7 @@ static void check_numbers(void) {
         SCALEVIEW_REGISTRY_TRAILING_BYTES,
         SCALEVIEW_REGISTRY_UNKNOWN_REFERENCE,
         SCALEVIEW_METADATA_UNKNOWN_REFERENCE,
+        SCALEVIEW_REGISTRY_TOO_LARGE,
     };
     for (uint32_t i = 0; i < sizeof of_registries / sizeof *of_registries; i++) {
         check("a name of a registry's refusal", of_registries[i] == 101 + i);

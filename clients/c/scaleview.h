@@ -63,6 +63,9 @@ enum scaleview_code {
     /* What follows the registry in metadata refers, at the place `at`, to the type `from`, which does not exist. */
     SCALEVIEW_METADATA_UNKNOWN_REFERENCE = 113,
 
+    /* There are more types, references, names, fields or bytes of a name than numbers of 32 bits. */
+    SCALEVIEW_REGISTRY_TOO_LARGE = 114,
+
     SCALEVIEW_UNKNOWN_TYPE = 201,       /* the registry has no type at this position */
     SCALEVIEW_LIMIT_OUT_OF_RANGE = 202, /* a limit is above 1024 for the depth, or above 2^40 for the bytes */
     SCALEVIEW_UNKNOWN_PART = 203,       /* the type has no such field, member or arm */

@@ -80,6 +80,7 @@ class error : public std::runtime_error {
             return "check: UnknownType " + std::to_string(answer.at) + " in type " + std::to_string(answer.from);
         if (code == SCALEVIEW_METADATA_UNKNOWN_REFERENCE)
             return "registry: UnknownReference to type " + std::to_string(answer.from) + " at " + std::to_string(answer.at);
+        if (code == SCALEVIEW_REGISTRY_TOO_LARGE) return "registry: TooLarge";
         if (code >= 401 && code < 500) return "node: " + at;
         if (code >= 301 && code < 400) return bytes + (": " + at);
         if (code >= 101 && code < 200) return "registry: " + at;

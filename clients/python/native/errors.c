@@ -60,7 +60,7 @@ static void raise_refused(const struct state *state, const scaleview_answer *ans
                           Py_ssize_t item) {
     uint32_t code = answer->code;
     bool has_types = code == SCALEVIEW_REGISTRY_UNKNOWN_REFERENCE, is_unknown = code == SCALEVIEW_UNKNOWN_TYPE;
-    bool has_place = !has_types && (code < 200 || code >= 300);
+    bool has_place = !has_types && code != SCALEVIEW_REGISTRY_TOO_LARGE && (code < 200 || code >= 300);
     bool has_target = has_types || is_unknown || code == SCALEVIEW_METADATA_UNKNOWN_REFERENCE;
     uint64_t target = has_types ? answer->at : is_unknown ? type : answer->from;
     raise_new(state->refused_class,

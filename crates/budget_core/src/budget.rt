@@ -3,6 +3,7 @@
 ghost use Rattle.std.specs.Prelude.{IfOk, ◌≡◌, ◌+◌, ◌*◌, ◌^◌, ◌-◌, ◌<◌, MatchOption, min};
 ghost use Rattle.budget_core.specs.Bytes.{budget_bytes};
 
+use growth_core::{Refused, clone_of, reported};
 use std::alloc::{AllocError, Allocator};
 use std::cell::Cell;
 use std::mem::size_of;
@@ -37,8 +38,8 @@ impl<B: Allocator + Clone> Budget<B> {
     ///
     /// # Errors
     ///
-    /// `AllocError` if the allocation of the count fails, or a clone of `alloc`.
-    pub fn new(alloc: B, bytes: u64) -> Result<Budget<B>, AllocError>
+    /// `Refused` if the allocation of the count fails, or a clone of `alloc`.
+    pub fn new(alloc: B, bytes: u64) -> Result<Budget<B>, Refused>
         ensures inner { IfOk result (λ budget. budget.inner ≡ alloc) }
         ensures bytes { IfOk result (λ budget. budget_bytes budget ≡ bytes) }
     {
@@ -46,7 +47,7 @@ impl<B: Allocator + Clone> Budget<B> {
             bytes,
             left: Cell::new(allowed(bytes)),
         };
-        let shared = Rc::new(alloc.clone()?, shared)?;
+        let shared = reported(Rc::new(clone_of(&alloc)?, shared))?;
         Ok(Budget {
             inner: alloc,
             shared,

@@ -33,7 +33,7 @@ registry_code registry.BadPrimitive = 107
 registry_code registry.IdOutOfPlace = 108
 registry_code registry.NotMetadata = 109
 registry_code registry.WrongVersion = 110
-registry_code registry.OutOfMemory = 3
+registry_code (registry.OutOfMemory _) = 3
 
 abbrev pub value_code : DecodeReason → ℕ
 value_code reason.Truncated = 301
@@ -48,7 +48,7 @@ value_code reason.NoFiniteValue = 309
 value_code reason.BitSequence = 310
 value_code reason.BadCompact = 311
 value_code reason.TooLong = 312
-value_code reason.OutOfMemory = 3
+value_code (reason.OutOfMemory _) = 3
 value_code reason.UnusedBits = 314
 
 -- a code alone, with a number, and with a place
@@ -81,7 +81,8 @@ registry_answer (types.Fault fault) = refused (registry_code fault.reason) fault
 registry_answer (types.TrailingBytes at) = refused 111 at
 registry_answer (types.Check unknown) =
     record { code = 112; from = unknown.from; at = unknown.to; length = 0 }
-registry_answer types.Memory = plain 3
+registry_answer (types.TooLarge _) = plain 114
+registry_answer (types.Memory _) = plain 3
 
 -- why there is no value
 abbrev pub value_answer : ValueRefusal → Answer
@@ -89,7 +90,7 @@ value_answer value.UnknownType = plain 201
 value_answer value.LimitOutOfRange = plain 202
 value_answer (value.Fault fault) = refused (value_code fault.reason) fault.at
 value_answer (value.TrailingBytes at) = refused 313 at
-value_answer value.Memory = plain 3
+value_answer (value.Memory _) = plain 3
 
 -- why there is no metadata: what follows the registry is a value
 abbrev pub metadata_answer : MetadataRefusal → Answer
@@ -99,7 +100,8 @@ metadata_answer (metadata.TrailingBytes at) = registry_answer (types.TrailingByt
 metadata_answer (metadata.UnknownReference ty at) =
     record { code = 113; from = ty; at = at; length = 0 }
 metadata_answer (metadata.Check unknown) = registry_answer (types.Check unknown)
-metadata_answer metadata.Memory = plain 3
+metadata_answer (metadata.TooLarge many) = registry_answer (types.TooLarge many)
+metadata_answer (metadata.Memory _) = plain 3
 
 -- why records are no value: the builder's reasons, from 401 on
 abbrev pub record_code : BuildFault → ℕ
@@ -113,14 +115,14 @@ record_code fault.NoSuchVariant = 407
 record_code fault.UnfinishedValue = 408
 record_code (fault.BadText valid) = 409
 record_code fault.UnknownType = 201
-record_code fault.OutOfMemory = 3
+record_code (fault.OutOfMemory _) = 3
 
 abbrev pub opening_code : BuildFault → ℕ
 opening_code fault.OutOfRange = 202
 opening_code reason = record_code reason
 
 abbrev pub rejected : ℕ → BuildFault → Answer
-rejected at fault.OutOfMemory = plain 3
+rejected at (fault.OutOfMemory _) = plain 3
 rejected at reason = refused (record_code reason) at
 
 abbrev pub records_answer : RecordFault → Answer

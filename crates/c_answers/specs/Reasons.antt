@@ -10,14 +10,15 @@ abbrev pub calls : List (List ℕ)
 calls = codes "Ok" ∷ codes "More" ∷ codes "NoRoom" ∷ codes "OutOfMemory" ∷ codes "Lent"
     ∷ codes "NoHandle" ∷ codes "Taken" ∷ []
 
--- those from 101 on: the reasons of a registry, and three more
+-- those from 101 on: the reasons of a registry, and four more
 abbrev pub of_registry : List (List ℕ)
 of_registry = registry_reason_name types.Truncated ∷ registry_reason_name types.BadUtf8
     ∷ registry_reason_name types.CompactNotShortest ∷ registry_reason_name types.CompactTooLarge
     ∷ registry_reason_name types.BadOption ∷ registry_reason_name types.BadDefinition
     ∷ registry_reason_name types.BadPrimitive ∷ registry_reason_name types.IdOutOfPlace
     ∷ registry_reason_name types.NotMetadata ∷ registry_reason_name types.WrongVersion
-    ∷ codes "TrailingBytes" ∷ codes "UnknownType" ∷ codes "UnknownReference" ∷ []
+    ∷ codes "TrailingBytes" ∷ codes "UnknownType" ∷ codes "UnknownReference"
+    ∷ codes "TooLarge" ∷ []
 
 -- those from 201 on
 abbrev pub of_opening : List (List ℕ)
@@ -44,7 +45,7 @@ of_records = codes "TooDeep" ∷ codes "NoFiniteValue" ∷ codes "BitSequence" �
 abbrev pub code_name : ℕ → List ℕ
 code_name code = if nat_le code 6 then slice_index_or calls code []
     else if nat_le code 100 then []
-    else if nat_le code 113 then slice_index_or of_registry (code - 101) []
+    else if nat_le code 114 then slice_index_or of_registry (code - 101) []
     else if nat_le code 200 then []
     else if nat_le code 205 then slice_index_or of_opening (code - 201) []
     else if nat_le code 300 then []

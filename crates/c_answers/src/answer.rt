@@ -9,6 +9,7 @@ ghost use Rattle.c_answers.specs.Codes.{opening_code, record_code, records_answe
 ghost use Rattle.c_answers.specs.Codes.{value_answer, value_code};
 
 use decode_core::{DecodeReason, Progress};
+use growth_core::Refused;
 use record_core::RecordFault;
 use registry_core::{RegistryReason, Version};
 use scale_calls::{MetadataRefusal, RegistryRefusal, ValueRefusal};
@@ -20,8 +21,8 @@ pub const OK: u32 = 0;
 pub const MORE: u32 = 1;
 /// The text does not fit.
 pub const NO_ROOM: u32 = 2;
-/// An allocation failed.
-pub const MEMORY: u32 = 3;
+/// An allocation failed. Only [`memory_code`] hands it out.
+const MEMORY: u32 = 3;
 /// A session of the registry is not freed yet.
 pub const LENT: u32 = 4;
 /// The handle is null, or of the other kind.
@@ -55,6 +56,13 @@ pub struct Answer {
     pub length: u64,
 }
 
+/// Returns the code of a failed allocation, of which the caller has the evidence.
+fn memory_code(_refused: Refused) -> u32
+    ensures { result ≡ 3 }
+{
+    MEMORY
+}
+
 fn registry_code(reason: RegistryReason) -> u32
     ensures { result ≡ registry_code reason }
 {
@@ -69,7 +77,7 @@ fn registry_code(reason: RegistryReason) -> u32
         RegistryReason::IdOutOfPlace => 108,
         RegistryReason::NotMetadata => 109,
         RegistryReason::WrongVersion => 110,
-        RegistryReason::OutOfMemory => MEMORY,
+        RegistryReason::OutOfMemory(refused) => memory_code(refused),
     }
 }
 
@@ -89,7 +97,7 @@ fn value_code(reason: DecodeReason) -> u32
         DecodeReason::BitSequence => 310,
         DecodeReason::BadCompact => 311,
         DecodeReason::TooLong => 312,
-        DecodeReason::OutOfMemory => MEMORY,
+        DecodeReason::OutOfMemory(refused) => memory_code(refused),
         DecodeReason::UnusedBits => 314,
     }
 }
@@ -108,7 +116,7 @@ fn record_code(reason: BuildFault) -> u32
         BuildFault::UnfinishedValue => 408,
         BuildFault::BadText { .. } => 409,
         BuildFault::UnknownType => UNKNOWN_TYPE,
-        BuildFault::OutOfMemory => MEMORY,
+        BuildFault::OutOfMemory(refused) => memory_code(refused),
     }
 }
 
@@ -170,6 +178,13 @@ impl Answer {
         }
     }
 
+    /// Returns the answer of a failed allocation.
+    pub fn of_refused(refused: Refused) -> Answer
+        ensures { result ≡ plain 3 }
+    {
+        Answer::plain(memory_code(refused))
+    }
+
     /// Returns the answer of a refusal at a place.
     fn refused(code: u32, at: u64) -> Answer
         ensures { result ≡ refused code at }
@@ -195,7 +210,8 @@ impl Answer {
                 at: unknown.to as u64,
                 length: 0,
             },
-            RegistryRefusal::Memory => Answer::plain(MEMORY),
+            RegistryRefusal::TooLarge(_) => Answer::plain(114),
+            RegistryRefusal::Memory(refused) => Answer::of_refused(refused),
         }
     }
 
@@ -218,7 +234,10 @@ impl Answer {
             MetadataRefusal::Check(unknown) => {
                 Answer::of_registry(RegistryRefusal::Check(unknown))
             }
-            MetadataRefusal::Memory => Answer::plain(MEMORY),
+            MetadataRefusal::TooLarge(many) => {
+                Answer::of_registry(RegistryRefusal::TooLarge(many))
+            }
+            MetadataRefusal::Memory(refused) => Answer::of_refused(refused),
         }
     }
 
@@ -231,7 +250,7 @@ impl Answer {
             ValueRefusal::LimitOutOfRange => Answer::plain(LIMIT_OUT_OF_RANGE),
             ValueRefusal::Fault(fault) => Answer::refused(value_code(fault.reason), fault.at),
             ValueRefusal::TrailingBytes(at) => Answer::refused(313, at),
-            ValueRefusal::Memory => Answer::plain(MEMORY),
+            ValueRefusal::Memory(refused) => Answer::of_refused(refused),
         }
     }
 
@@ -241,7 +260,7 @@ impl Answer {
     {
         match fault {
             RecordFault::Open(reason) => Answer::plain(opening_code(reason)),
-            RecordFault::Record(_, BuildFault::OutOfMemory) => Answer::plain(MEMORY),
+            RecordFault::Record(_, BuildFault::OutOfMemory(refused)) => Answer::of_refused(refused),
             RecordFault::Record(at, reason) => Answer::refused(record_code(reason), at as u64),
         }
     }

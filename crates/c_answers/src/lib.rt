@@ -5,7 +5,7 @@ mod answer;
 mod reasons;
 
 pub use answer::{
-    Answer, LENT, LIMIT_OUT_OF_RANGE, MEMORY, MORE, NO_BYTES, NO_HANDLE, NO_ROOM, OK, TAKEN,
-    UNKNOWN_NAME, UNKNOWN_PART, UNKNOWN_TYPE,
+    Answer, LENT, LIMIT_OUT_OF_RANGE, MORE, NO_BYTES, NO_HANDLE, NO_ROOM, OK, TAKEN, UNKNOWN_NAME,
+    UNKNOWN_PART, UNKNOWN_TYPE,
 };
 pub use reasons::code_name;

@@ -15,7 +15,7 @@ const CALLS: [&str; 7] = [
 ];
 
 /// The names of the codes from 101 on, which say why bytes hold no registry.
-const REGISTRY: [&str; 13] = [
+const REGISTRY: [&str; 14] = [
     "Truncated",
     "BadUtf8",
     "CompactNotShortest",
@@ -29,6 +29,7 @@ const REGISTRY: [&str; 13] = [
     "TrailingBytes",
     "UnknownType",
     "UnknownReference",
+    "TooLarge",
 ];
 
 /// The names of the codes from 201 on, which reject a type, a limit, a part or a name.
@@ -77,7 +78,7 @@ pub fn code_name(code: u32) -> &'static str
 {
     match code {
         0..=6 => CALLS[code as usize],
-        101..=113 => REGISTRY[code as usize - 101],
+        101..=114 => REGISTRY[code as usize - 101],
         201..=205 => OPENING[code as usize - 201],
         301..=314 => VALUE[code as usize - 301],
         401..=409 => RECORDS[code as usize - 401],

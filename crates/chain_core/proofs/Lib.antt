@@ -2,4 +2,5 @@
 -- synthetic.
 pub mod NameTexts
 pub mod OwnReferences
+pub mod RestRead
 pub mod SyntheticCounts

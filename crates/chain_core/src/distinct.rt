@@ -2,7 +2,8 @@
 
 use crate::names::NamedType;
 use crate::thing::Path;
-use std::alloc::{AllocError, Global};
+use growth_core::{Refused, push, reported};
+use std::alloc::Global;
 use std::collections::{BTreeMap, BTreeSet};
 use std::rc::RcStr;
 
@@ -21,17 +22,17 @@ struct PathTree<'n> {
 
 impl<'n> PathTree<'n> {
     /// Returns the node to which a text leads from a node.
-    fn node_after(&mut self, from: usize, text: &'n str) -> Result<usize, AllocError> {
+    fn node_after(&mut self, from: usize, text: &'n str) -> Result<usize, Refused> {
         let mut node = from;
         'parts: for part in text.as_bytes().split(|byte| *byte == b'.') {
             let next = self.nodes.len() + 1;
-            node = *self.nodes.entry((node, part))?.or_insert(next);
+            node = *reported(self.nodes.entry((node, part)))?.or_insert(next);
         }
         Ok(node)
     }
 
     /// Returns the node of a pallet or an api.
-    fn outer_node(&mut self, outer: &'n RcStr) -> Result<usize, AllocError> {
+    fn outer_node(&mut self, outer: &'n RcStr) -> Result<usize, Refused> {
         if let Some((last, node)) = self.last {
             if RcStr::ptr_eq(last, outer) {
                 return Ok(node);
@@ -43,7 +44,7 @@ impl<'n> PathTree<'n> {
     }
 
     /// Returns the node of a path.
-    fn node_of(&mut self, path: &'n Path) -> Result<usize, AllocError> {
+    fn node_of(&mut self, path: &'n Path) -> Result<usize, Refused> {
         match path {
             Path::Empty => Ok(ROOT),
             Path::One(name) => self.node_after(ROOT, name.as_str()),
@@ -59,7 +60,7 @@ impl<'n> PathTree<'n> {
 pub(crate) fn distinct_positions(
     alloc: Global,
     types: &[NamedType],
-) -> Result<Vec<usize>, AllocError> {
+) -> Result<Vec<usize>, Refused> {
     let mut tree = PathTree {
         nodes: BTreeMap::new(alloc),
         last: None,
@@ -68,8 +69,8 @@ pub(crate) fn distinct_positions(
     let mut positions = Vec::new(alloc);
     'types: for (position, named) in types.iter().enumerate() {
         let node = tree.node_of(&named.path)?;
-        if seen.insert((node, named.section.word()))? {
-            positions.push(position)?;
+        if reported(seen.insert((node, named.section.word())))? {
+            push(&mut positions, position)?;
         }
     }
     Ok(positions)

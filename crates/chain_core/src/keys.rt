@@ -6,9 +6,10 @@ ghost use Rattle.chain_core.specs.Keys.{entry_value, hashers_in, key_part, key_p
 ghost use Rattle.chain_core.specs.Keys.{map_parts, members_of, parts_by};
 
 use crate::parts::{child, reference_at};
+use growth_core::{Refused, push, with_capacity};
 use node_core::{NodeRef, What};
 use registry_core::{TypeDef, TypeId, TypeInfo};
-use std::alloc::{AllocError, Global};
+use std::alloc::Global;
 
 /// How many bytes a hash has.
 #[derive(Clone, Copy, Debug, PartialEq, Eq)]
@@ -50,26 +51,26 @@ fn key_part(hasher: u32, key: TypeId) -> KeyPart
 }
 
 /// Returns the positions of the hashers.
-fn hashers_of(alloc: Global, list: &NodeRef<'_, '_>) -> Result<Vec<u32>, AllocError>
+fn hashers_of(alloc: Global, list: &NodeRef<'_, '_>) -> Result<Vec<u32>, Refused>
     ensures { IfOk result (λ hs. hs.items ≡ hashers_in (children_of list.now)) }
 {
     let mut hashers = Vec::new(alloc);
     'hashers: for hasher in list.children() {
         if let What::Arm { position } = hasher.what() {
-            hashers.push(position)?;
+            push(&mut hashers, position)?;
         }
     }
     Ok(hashers)
 }
 
 /// Returns the parts that the hashers make of keys of these types.
-fn parts_by(alloc: Global, hashers: &[u32], keys: &[TypeId]) -> Result<Vec<KeyPart>, AllocError>
+fn parts_by(alloc: Global, hashers: &[u32], keys: &[TypeId]) -> Result<Vec<KeyPart>, Refused>
     requires { length keys.now ≡ length hashers.now }
     ensures { IfOk result (λ parts. parts.items ≡ parts_by hashers.now keys.now) }
 {
-    let mut parts = Vec::with_capacity(alloc, hashers.len())?;
+    let mut parts = with_capacity(alloc, hashers.len())?;
     'hashers: for (position, hasher) in hashers.iter().enumerate() {
-        parts.push(key_part(*hasher, keys[position]))?;
+        push(&mut parts, key_part(*hasher, keys[position]))?;
     }
     Ok(parts)
 }
@@ -91,7 +92,7 @@ fn map_parts(
     own: &[TypeInfo],
     hashers: &[u32],
     key: u32,
-) -> Result<Option<Vec<KeyPart>>, AllocError>
+) -> Result<Option<Vec<KeyPart>>, Refused>
     ensures { IfOk result (λ found.
         option_map (λ parts. parts.items) found ≡ map_parts own.now hashers.now key) }
 {
@@ -110,7 +111,7 @@ pub(crate) fn key_parts(
     alloc: Global,
     own: &[TypeInfo],
     ty: &NodeRef<'_, '_>,
-) -> Result<Option<Vec<KeyPart>>, AllocError>
+) -> Result<Option<Vec<KeyPart>>, Refused>
     ensures { IfOk result (λ found.
         option_map (λ parts. parts.items) found ≡ key_parts own.now ty.now) }
 {

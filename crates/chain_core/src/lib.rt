@@ -1,9 +1,9 @@
-//! For crates: what a chain's metadata names in its rest, the part after its registry, and the
-//! types that stand for extrinsics, storage keys and the parameters of methods.
+//! For crates: the names of a chain's metadata, and the types of extrinsics, keys and parameters.
 #![tactic(auto)]
 
 mod distinct;
 mod extrinsics;
+mod fault;
 mod finding;
 mod keys;
 mod listing;
@@ -17,6 +17,7 @@ mod thing;
 mod unknown;
 
 pub use extrinsics::ExtrinsicTypes;
+pub use fault::NamesFault;
 pub use finding::after_front;
 pub use keys::{HashLength, KeyPart};
 pub use listing::list_things;

@@ -13,32 +13,39 @@ use crate::extrinsics::{ExtrinsicTypes, call_type, extrinsic_types, part_at};
 use crate::keys::{KeyPart, entry_value, key_parts};
 use crate::parts::{bytes_at, child, inner, inner_reference, reference_at, text_at};
 use crate::thing::{Meaning, Path, Section, Thing};
+use growth_core::{
+    Refused, clone_of, extend_from_slice, push, shared_from, string_from, with_capacity,
+};
 use node_core::{NodeRef, What};
 use registry_core::{TypeInfo, Version};
-use std::alloc::{AllocError, Global};
+use std::alloc::Global;
 use std::rc::RcStr;
 
 /// Returns the path of a name.
-fn path_of(alloc: Global, name: &str) -> Result<Path, AllocError>
+fn path_of(alloc: Global, name: &str) -> Result<Path, Refused>
     ensures { IfOk result (λ path. path_text path ≡ name.now) }
 {
-    Ok(Path::One(String::from_str(alloc, name)?))
+    Ok(Path::One(string_from(alloc, name)?))
 }
 
 /// Returns the path of a part of a pallet or of an api.
-fn path_in(alloc: Global, outer: &RcStr, inner: &str) -> Result<Path, AllocError>
+fn path_in(alloc: Global, outer: &RcStr, inner: &str) -> Result<Path, Refused>
     ensures { IfOk result (λ path. path_text path ≡ dotted (rc_str_bytes outer.now) inner.now) }
 {
-    Ok(Path::Two(outer.clone()?, String::from_str(alloc, inner)?))
+    Ok(Path::Two(clone_of(outer)?, string_from(alloc, inner)?))
 }
 
 /// Returns a copy of the bytes.
-fn copied(alloc: Global, bytes: Option<&[u8]>) -> Result<Option<Vec<u8>>, AllocError>
+fn copied(alloc: Global, bytes: Option<&[u8]>) -> Result<Option<Vec<u8>>, Refused>
     ensures { IfOk result (λ copy.
         option_map (λ v. v.items) copy ≡ option_map (λ s. s.now) bytes.entry) }
 {
     match bytes {
-        Some(bytes) => Ok(Some(Vec::from_slice(alloc, bytes)?)),
+        Some(bytes) => {
+            let mut copy = with_capacity(alloc, bytes.len())?;
+            extend_from_slice(&mut copy, bytes)?;
+            Ok(Some(copy))
+        }
         None => Ok(None),
     }
 }
@@ -50,17 +57,18 @@ fn push_own<'v, 'r>(
     path: Path,
     reference: Option<u32>,
     bytes: Option<Vec<u8>>,
-) -> Result<(), AllocError>
+) -> Result<(), Refused>
     ensures { OnOk result (Adds things.old.items things.new.items (own_thing
         (name_text section path) reference (option_map (λ v. v.items) bytes))) }
 {
     if let Some(id) = reference {
-        things.push(Thing {
+        let thing = Thing {
             section,
             path,
             meaning: Meaning::Own(id),
             bytes,
-        })?;
+        };
+        push(things, thing)?;
     }
     Ok(())
 }
@@ -69,16 +77,17 @@ fn push_own<'v, 'r>(
 fn push_extrinsic<'v, 'r>(
     things: &mut Vec<Thing<'v, 'r>>,
     types: Option<ExtrinsicTypes>,
-) -> Result<(), AllocError>
+) -> Result<(), Refused>
     ensures { OnOk result (Adds things.old.items things.new.items (extrinsic_thing types)) }
 {
     if let Some(types) = types {
-        things.push(Thing {
+        let thing = Thing {
             section: Section::Extrinsic,
             path: Path::Empty,
             meaning: Meaning::Extrinsic(types),
             bytes: None,
-        })?;
+        };
+        push(things, thing)?;
     }
     Ok(())
 }
@@ -89,7 +98,7 @@ fn push_outer<'v, 'r>(
     own: &[TypeInfo],
     rest: &NodeRef<'v, 'r>,
     things: &mut Vec<Thing<'v, 'r>>,
-) -> Result<(), AllocError>
+) -> Result<(), Refused>
     ensures { OnOk result (Adds things.old.items things.new.items
         (outer_things version own.now rest.now)) }
 {
@@ -132,17 +141,18 @@ fn push_key<'v, 'r>(
     things: &mut Vec<Thing<'v, 'r>>,
     path: Path,
     parts: Option<Vec<KeyPart>>,
-) -> Result<(), AllocError>
+) -> Result<(), Refused>
     ensures { OnOk result (Adds things.old.items things.new.items
         (key_thing (path_text path) (option_map (λ v. v.items) parts))) }
 {
     if let Some(parts) = parts {
-        things.push(Thing {
+        let thing = Thing {
             section: Section::Key,
             path,
             meaning: Meaning::Key(parts),
             bytes: None,
-        })?;
+        };
+        push(things, thing)?;
     }
     Ok(())
 }
@@ -154,7 +164,7 @@ fn push_entry<'v, 'r>(
     pallet: &RcStr,
     entry: &NodeRef<'v, 'r>,
     things: &mut Vec<Thing<'v, 'r>>,
-) -> Result<(), AllocError>
+) -> Result<(), Refused>
     ensures { OnOk result (Adds things.old.items things.new.items
         (entry_things own.now (rc_str_bytes pallet.now) entry.now)) }
 {
@@ -180,7 +190,7 @@ fn push_entries<'v, 'r>(
     pallet: &RcStr,
     list: Option<NodeRef<'v, 'r>>,
     things: &mut Vec<Thing<'v, 'r>>,
-) -> Result<(), AllocError>
+) -> Result<(), Refused>
     ensures { OnOk result (Adds things.old.items things.new.items
         (flat_map (entry_things own.now (rc_str_bytes pallet.now)) (children_in list.entry))) }
 {
@@ -199,7 +209,7 @@ fn push_constants<'v, 'r>(
     pallet: &RcStr,
     list: Option<NodeRef<'v, 'r>>,
     things: &mut Vec<Thing<'v, 'r>>,
-) -> Result<(), AllocError>
+) -> Result<(), Refused>
     ensures { OnOk result (Adds things.old.items things.new.items
         (flat_map (constant_thing (rc_str_bytes pallet.now)) (children_in list.entry))) }
 {
@@ -228,7 +238,7 @@ fn push_pallet<'v, 'r>(
     own: &[TypeInfo],
     pallet: &NodeRef<'v, 'r>,
     things: &mut Vec<Thing<'v, 'r>>,
-) -> Result<(), AllocError>
+) -> Result<(), Refused>
     ensures { OnOk result (Adds things.old.items things.new.items
         (pallet_things own.now pallet.now)) }
 {
@@ -254,7 +264,7 @@ fn push_pallet<'v, 'r>(
         inner_reference(pallet, 5),
         None,
     )?;
-    let shared = RcStr::from_str(alloc, name)?;
+    let shared = shared_from(alloc, name)?;
     push_entries(alloc, own, &shared, entries_of(pallet), things)?;
     push_constants(alloc, &shared, child(pallet, 4), things)
 }
@@ -265,7 +275,7 @@ fn push_pallets<'v, 'r>(
     own: &[TypeInfo],
     list: Option<NodeRef<'v, 'r>>,
     things: &mut Vec<Thing<'v, 'r>>,
-) -> Result<(), AllocError>
+) -> Result<(), Refused>
     ensures { OnOk result (Adds things.old.items things.new.items
         (flat_map (pallet_things own.now) (children_in list.entry))) }
 {
@@ -283,17 +293,18 @@ fn push_params<'v, 'r>(
     things: &mut Vec<Thing<'v, 'r>>,
     path: Path,
     inputs: Option<NodeRef<'v, 'r>>,
-) -> Result<(), AllocError>
+) -> Result<(), Refused>
     ensures { OnOk result (Adds things.old.items things.new.items
         (params_thing (path_text path) inputs.entry)) }
 {
     if let Some(inputs) = inputs {
-        things.push(Thing {
+        let thing = Thing {
             section: Section::Params,
             path,
             meaning: Meaning::Params(inputs),
             bytes: None,
-        })?;
+        };
+        push(things, thing)?;
     }
     Ok(())
 }
@@ -304,7 +315,7 @@ fn push_method<'v, 'r>(
     api: &RcStr,
     method: &NodeRef<'v, 'r>,
     things: &mut Vec<Thing<'v, 'r>>,
-) -> Result<(), AllocError>
+) -> Result<(), Refused>
     ensures { OnOk result (Adds things.old.items things.new.items
         (method_things (rc_str_bytes api.now) method.now)) }
 {
@@ -325,10 +336,10 @@ fn push_api<'v, 'r>(
     alloc: Global,
     api: &NodeRef<'v, 'r>,
     things: &mut Vec<Thing<'v, 'r>>,
-) -> Result<(), AllocError>
+) -> Result<(), Refused>
     ensures { OnOk result (Adds things.old.items things.new.items (api_things api.now)) }
 {
-    let name = RcStr::from_str(alloc, text_at(api, 0))?;
+    let name = shared_from(alloc, text_at(api, 0))?;
     let Some(methods) = child(api, 1) else {
         return Ok(());
     };
@@ -343,7 +354,7 @@ fn push_apis<'v, 'r>(
     alloc: Global,
     list: Option<NodeRef<'v, 'r>>,
     things: &mut Vec<Thing<'v, 'r>>,
-) -> Result<(), AllocError>
+) -> Result<(), Refused>
     ensures { OnOk result (Adds things.old.items things.new.items
         (flat_map api_things (children_in list.entry))) }
 {
@@ -361,7 +372,7 @@ fn push_customs<'v, 'r>(
     alloc: Global,
     list: Option<NodeRef<'v, 'r>>,
     things: &mut Vec<Thing<'v, 'r>>,
-) -> Result<(), AllocError>
+) -> Result<(), Refused>
     ensures { OnOk result (Adds things.old.items things.new.items
         (flat_map custom_thing (children_in list.entry))) }
 {
@@ -387,13 +398,13 @@ fn push_customs<'v, 'r>(
 ///
 /// # Errors
 ///
-/// `AllocError` if an allocation fails.
+/// `Refused` if an allocation fails.
 pub fn list_things<'v, 'r>(
     alloc: Global,
     version: Version,
     own: &[TypeInfo],
     rest: &NodeRef<'v, 'r>,
-) -> Result<Vec<Thing<'v, 'r>>, AllocError>
+) -> Result<Vec<Thing<'v, 'r>>, Refused>
     ensures { IfOk result (λ list. all_named list.items ≡ things version own.now rest.now) }
 {
     let mut things = Vec::new(alloc);

@@ -8,7 +8,8 @@ ghost use Rattle.chain_core.specs.Things.{all_named, name_text, stands_for};
 use crate::distinct::distinct_positions;
 use crate::finding::{after_front, is_path};
 use crate::thing::{Meaning, Path, Section, Thing};
-use std::alloc::{AllocError, Global};
+use growth_core::{Refused, push, push_str, with_capacity};
+use std::alloc::Global;
 
 /// A name, the type that it stands for, and the bytes that the metadata has for it.
 #[derive(Drop)]
@@ -47,19 +48,19 @@ impl NamedType {
     ///
     /// # Errors
     ///
-    /// `AllocError` if an allocation fails; the first part of the name may have been appended.
-    pub fn push_name(&self, text: &mut String) -> Result<(), AllocError>
+    /// `Refused` if an allocation fails; the first part of the name may have been appended.
+    pub fn push_name(&self, text: &mut String) -> Result<(), Refused>
         ensures { OnOk result (string_bytes text.new
             ≡ string_bytes text.old ++ (entry_of self.now).name) }
     {
-        text.push_str(self.section.word())?;
+        push_str(text, self.section.word())?;
         match &self.path {
             Path::Empty => Ok(()),
-            Path::One(name) => text.push_str(name.as_str()),
+            Path::One(name) => push_str(text, name.as_str()),
             Path::Two(outer, inner) => {
-                text.push_str(outer.as_str())?;
-                text.push_str(".")?;
-                text.push_str(inner.as_str())
+                push_str(text, outer.as_str())?;
+                push_str(text, ".")?;
+                push_str(text, inner.as_str())
             }
         }
     }
@@ -81,12 +82,12 @@ fn named_types(
     alloc: Global,
     things: Vec<Thing<'_, '_>>,
     own: u32,
-) -> Result<Vec<NamedType>, AllocError>
+) -> Result<Vec<NamedType>, Refused>
     requires { own + length things.items < 2 ^ 32 }
     ensures { IfOk result (λ types.
         types_of types.items ≡ placed (all_named things.entry.items) own) }
 {
-    let mut types = Vec::with_capacity(alloc, things.len())?;
+    let mut types = with_capacity(alloc, things.len())?;
     let mut free = own;
     'things: for thing in things {
         let Thing {
@@ -97,12 +98,13 @@ fn named_types(
         } = thing;
         let (id, next) = place(&meaning, free);
         free = next;
-        types.push(NamedType {
+        let named = NamedType {
             section,
             path,
             id,
             bytes,
-        })?;
+        };
+        push(&mut types, named)?;
     }
     Ok(types)
 }
@@ -124,8 +126,8 @@ impl Names {
     ///
     /// # Errors
     ///
-    /// `AllocError` if an allocation fails.
-    pub fn new(alloc: Global, things: Vec<Thing<'_, '_>>, own: u32) -> Result<Names, AllocError>
+    /// `Refused` if an allocation fails.
+    pub fn new(alloc: Global, things: Vec<Thing<'_, '_>>, own: u32) -> Result<Names, Refused>
         requires { own + length things.items < 2 ^ 32 }
         ensures { IfOk result (λ names.
             entries_of names ≡ placed (all_named things.entry.items) own) }

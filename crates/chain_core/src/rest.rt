@@ -3,9 +3,11 @@
 ghost use Rattle.std.specs.Prelude.{◌≡◌, IfOk, length};
 ghost use Rattle.chain_core.specs.RestTypes.{rest_root, rest_types};
 
-use registry_core::{Registry, TypeId, Version, read_registry};
-use std::alloc::{AllocError, Global};
-use widths_core::Checked;
+use crate::fault::NamesFault;
+use growth_core::Refused;
+use registry_core::{Registry, RegistryFault, RegistryReason, TypeId, Version, read_registry};
+use std::alloc::Global;
+use widths_core::{CheckFault, Checked};
 
 /// The types, as the bytes of a registry, a line each (Substrate, `RuntimeMetadataV14` and
 /// `RuntimeMetadataV15`). They have no paths, parameters and docs, and their fields and arms no
@@ -103,12 +105,15 @@ pub fn rest_root(version: Version) -> TypeId
 }
 
 /// Reads the types.
-fn read_types(alloc: Global) -> Result<Registry, AllocError>
+fn read_types(alloc: Global) -> Result<Registry, Refused>
     ensures { IfOk result (λ registry. registry ≡ rest_types) }
 {
     match read_registry(alloc, &REST_TYPES) {
         Ok((registry, _)) => Ok(registry),
-        Err(_) => Err(AllocError),
+        Err(RegistryFault { reason, .. }) => match reason {
+            RegistryReason::OutOfMemory(refused) => Err(refused),
+            _ => unreachable!(),
+        },
     }
 }
 
@@ -116,18 +121,16 @@ fn read_types(alloc: Global) -> Result<Registry, AllocError>
 ///
 /// # Errors
 ///
-/// `AllocError` if an allocation fails.
-// The bytes are a registry of 37 types that refer to these alone, so nothing else can fail.
-pub fn rest_types(alloc: Global) -> Result<Checked, AllocError>
+/// `OutOfMemory` if an allocation fails.
+pub fn rest_types(alloc: Global) -> Result<Checked, NamesFault>
     ensures exact { IfOk result (λ checked. checked.types ≡ rest_types) }
-    ensures count { IfOk result (λ _. length rest_types ≡ 37) }
+    ensures count { length rest_types ≡ 37 }
 {
     let registry = read_types(alloc)?;
-    if registry.types().len() != 37 {
-        return Err(AllocError);
-    }
     match Checked::new(alloc, registry) {
         Ok(checked) => Ok(checked),
-        Err(_) => Err(AllocError),
+        Err((CheckFault::OutOfMemory(refused), _)) => Err(NamesFault::OutOfMemory(refused)),
+        Err((CheckFault::TooLarge(many), _)) => Err(NamesFault::TooLarge(many)),
+        Err((CheckFault::UnknownType { .. }, _)) => unreachable!(),
     }
 }

@@ -14,13 +14,16 @@ ghost use Rattle.chain_core.specs.Synthetic.{type_if, unnamed};
 ghost use Rattle.chain_core.specs.Things.{all_named, stands_for};
 
 use crate::extrinsics::ExtrinsicTypes;
+use crate::fault::NamesFault;
 use crate::keys::{HashLength, KeyPart};
 use crate::needs::{Needs, SmallTypes, all_needs, own_byte, small_types};
 use crate::parts::{reference_at, text_at};
 use crate::thing::{Meaning, Thing};
+use graph_core::number;
+use growth_core::{push, reported, string_from, with_capacity};
 use node_core::NodeRef;
 use registry_core::{Arm, Field, Fields, Items, Name, Primitive, Text, TypeDef, TypeId, TypeInfo};
-use std::alloc::{AllocError, Global};
+use std::alloc::Global;
 
 /// Returns a type of this shape, without path, parameters and docs.
 fn unnamed(alloc: Global, shape: TypeDef) -> TypeInfo
@@ -40,16 +43,13 @@ fn unnamed(alloc: Global, shape: TypeDef) -> TypeInfo
 ///
 /// # Errors
 ///
-/// `AllocError` if the text has more than `u32::MAX` bytes. No name of metadata is that long, but
-/// contracts don't say so.
-fn name_of(text: String) -> Result<Name, AllocError>
+/// `TooLarge` if the text has more than `u32::MAX` bytes.
+fn name_of(text: String) -> Result<Name, NamesFault>
     ensures exact { IfOk result (λ name. name ≡ string_bytes text) }
     ensures fits { IfOk result (λ name. FitsText name) }
 {
     let name = Name::from_text(Text::from_string(text));
-    if name.as_str().len() > u32::MAX as usize {
-        return Err(AllocError);
-    }
+    let _len = number(name.as_str().len())?;
     Ok(name)
 }
 
@@ -57,21 +57,18 @@ fn name_of(text: String) -> Result<Name, AllocError>
 ///
 /// # Errors
 ///
-/// `AllocError` if an allocation fails, or if there are more than `u32::MAX` fields. No method of
-/// metadata has that many parameters and no key that many parts, but contracts don't say so.
-fn fields_of(alloc: Global, list: Vec<Field>) -> Result<Fields, AllocError>
+/// `TooLarge` if there are more than `u32::MAX` fields, and `OutOfMemory` if an allocation fails.
+fn fields_of(alloc: Global, list: Vec<Field>) -> Result<Fields, NamesFault>
     requires { AllByRecursion FitsField list.items }
     ensures exact { IfOk result (λ fields. fields ≡ list.items) }
     ensures fits { IfOk result (λ fields. FitsList FitsField fields) }
 {
-    if list.len() > u32::MAX as usize {
-        return Err(AllocError);
-    }
-    Fields::from_vec(alloc, list)
+    let _count = number(list.len())?;
+    Ok(Fields::from_vec(alloc, list)?)
 }
 
 /// Appends a field.
-fn push_field(alloc: Global, name: String, ty: u32, list: &mut Vec<Field>) -> Result<(), AllocError>
+fn push_field(alloc: Global, name: String, ty: u32, list: &mut Vec<Field>) -> Result<(), NamesFault>
     requires { AllByRecursion FitsField list.old.items }
     ensures exact { OnOk result (list.new.items
         ≡ list.old.items ++ field (string_bytes name) ty ∷ []) }
@@ -83,30 +80,30 @@ fn push_field(alloc: Global, name: String, ty: u32, list: &mut Vec<Field>) -> Re
         type_name: None,
         docs: Items::from_vec(Vec::new(alloc)),
     };
-    list.push(field)?;
+    push(list, field)?;
     Ok(())
 }
 
 /// Returns fields with these names and types.
-fn fields(alloc: Global, parts: &[(&str, u32)]) -> Result<Fields, AllocError>
+fn fields(alloc: Global, parts: &[(&str, u32)]) -> Result<Fields, NamesFault>
     ensures exact { IfOk result (λ fields. fields ≡ map (λ p. field p.0.now p.1) parts.now) }
     ensures fits { IfOk result (λ fields. FitsList FitsField fields) }
 {
-    let mut list = Vec::with_capacity(alloc, parts.len())?;
+    let mut list = with_capacity(alloc, parts.len())?;
     'parts: for (name, ty) in parts {
-        push_field(alloc, String::from_str(alloc, name)?, *ty, &mut list)?;
+        push_field(alloc, string_from(alloc, name)?, *ty, &mut list)?;
     }
     fields_of(alloc, list)
 }
 
 /// Returns an arm.
-fn arm(alloc: Global, name: &str, index: u8, parts: &[(&str, u32)]) -> Result<Arm, AllocError>
+fn arm(alloc: Global, name: &str, index: u8, parts: &[(&str, u32)]) -> Result<Arm, NamesFault>
     ensures exact { IfOk result (λ a.
         a ≡ arm name.now index (map (λ p. field p.0.now p.1) parts.now)) }
     ensures fits { IfOk result (λ a. FitsArm a) }
 {
     Ok(Arm {
-        name: name_of(String::from_str(alloc, name)?)?,
+        name: name_of(string_from(alloc, name)?)?,
         fields: fields(alloc, parts)?,
         index,
         docs: Items::from_vec(Vec::new(alloc)),
@@ -114,7 +111,7 @@ fn arm(alloc: Global, name: &str, index: u8, parts: &[(&str, u32)]) -> Result<Ar
 }
 
 /// Returns the type of extrinsics (Substrate, `UncheckedExtrinsic`, versions 4 and 5).
-fn extrinsic(alloc: Global, types: ExtrinsicTypes, byte: u32) -> Result<TypeInfo, AllocError>
+fn extrinsic(alloc: Global, types: ExtrinsicTypes, byte: u32) -> Result<TypeInfo, NamesFault>
     ensures exact { IfOk result (λ info. info ≡ extrinsic_type types byte) }
     ensures fits { IfOk result (λ info. FitsType info) }
 {
@@ -126,11 +123,14 @@ fn extrinsic(alloc: Global, types: ExtrinsicTypes, byte: u32) -> Result<TypeInfo
         extra,
         call,
     ];
-    let mut arms = Vec::with_capacity(alloc, 4)?;
-    arms.push(arm(alloc, "bare", 4, &[call])?)?;
-    arms.push(arm(alloc, "signed", 132, &signed)?)?;
-    arms.push(arm(alloc, "bare_v5", 5, &[call])?)?;
-    arms.push(arm(alloc, "general", 69, &[("version", byte), extra, call])?)?;
+    let mut arms = with_capacity(alloc, 4)?;
+    push(&mut arms, arm(alloc, "bare", 4, &[call])?)?;
+    push(&mut arms, arm(alloc, "signed", 132, &signed)?)?;
+    push(&mut arms, arm(alloc, "bare_v5", 5, &[call])?)?;
+    push(
+        &mut arms,
+        arm(alloc, "general", 69, &[("version", byte), extra, call])?,
+    )?;
     Ok(unnamed(alloc, TypeDef::Variant(Items::from_vec(arms))))
 }
 
@@ -152,7 +152,7 @@ fn push_hash(
     hash: Option<HashLength>,
     small: SmallTypes,
     list: &mut Vec<Field>,
-) -> Result<(), AllocError>
+) -> Result<(), NamesFault>
     requires { AllByRecursion FitsField list.old.items }
     ensures exact { OnOk result (list.new.items
         ≡ list.old.items ++ hash_field small position hash) }
@@ -160,7 +160,7 @@ fn push_hash(
 {
     match hash {
         Some(hash) => {
-            let name = format!(in alloc; "hash{position}")?;
+            let name = reported(format!(in alloc; "hash{position}"))?;
             push_field(alloc, name, hash_type(small, hash), list)
         }
         None => Ok(()),
@@ -173,14 +173,14 @@ fn push_key(
     position: usize,
     key: Option<u32>,
     list: &mut Vec<Field>,
-) -> Result<(), AllocError>
+) -> Result<(), NamesFault>
     requires { AllByRecursion FitsField list.old.items }
     ensures exact { OnOk result (list.new.items ≡ list.old.items ++ key_field position key) }
     ensures fits { OnOk result (AllByRecursion FitsField list.new.items) }
 {
     match key {
         Some(ty) => {
-            let name = format!(in alloc; "key{position}")?;
+            let name = reported(format!(in alloc; "key{position}"))?;
             push_field(alloc, name, ty, list)
         }
         None => Ok(()),
@@ -193,7 +193,7 @@ fn push_parts(
     parts: &[KeyPart],
     small: SmallTypes,
     list: &mut Vec<Field>,
-) -> Result<(), AllocError>
+) -> Result<(), NamesFault>
     requires { AllByRecursion FitsField list.old.items }
     ensures exact { OnOk result (list.new.items
         ≡ list.old.items ++ part_fields small 0 parts.now) }
@@ -207,20 +207,20 @@ fn push_parts(
 }
 
 /// Returns the type of the keys of a storage entry.
-fn storage_key(alloc: Global, parts: &[KeyPart], small: SmallTypes) -> Result<TypeInfo, AllocError>
+fn storage_key(alloc: Global, parts: &[KeyPart], small: SmallTypes) -> Result<TypeInfo, NamesFault>
     ensures exact { IfOk result (λ info. info ≡ key_type small parts.now) }
     ensures fits { IfOk result (λ info. FitsType info) }
 {
     let mut list = Vec::new(alloc);
     push_field(
         alloc,
-        String::from_str(alloc, "pallet")?,
+        string_from(alloc, "pallet")?,
         small.bytes16,
         &mut list,
     )?;
     push_field(
         alloc,
-        String::from_str(alloc, "entry")?,
+        string_from(alloc, "entry")?,
         small.bytes16,
         &mut list,
     )?;
@@ -233,14 +233,14 @@ fn push_input(
     alloc: Global,
     input: &NodeRef<'_, '_>,
     list: &mut Vec<Field>,
-) -> Result<(), AllocError>
+) -> Result<(), NamesFault>
     requires { AllByRecursion FitsField list.old.items }
     ensures exact { OnOk result (list.new.items ≡ list.old.items ++ input_fields input.now) }
     ensures fits { OnOk result (AllByRecursion FitsField list.new.items) }
 {
     match reference_at(input, 1) {
         Some(ty) => {
-            let name = String::from_str(alloc, text_at(input, 0))?;
+            let name = string_from(alloc, text_at(input, 0))?;
             push_field(alloc, name, ty, list)
         }
         None => Ok(()),
@@ -248,7 +248,7 @@ fn push_input(
 }
 
 /// Returns the type of the parameters of a method.
-fn parameters(alloc: Global, inputs: &NodeRef<'_, '_>) -> Result<TypeInfo, AllocError>
+fn parameters(alloc: Global, inputs: &NodeRef<'_, '_>) -> Result<TypeInfo, NamesFault>
     ensures exact { IfOk result (λ info. info ≡ params_type inputs.now) }
     ensures fits { IfOk result (λ info. FitsType info) }
 {
@@ -260,13 +260,13 @@ fn parameters(alloc: Global, inputs: &NodeRef<'_, '_>) -> Result<TypeInfo, Alloc
 }
 
 /// Appends a type.
-fn push_type(info: TypeInfo, types: &mut Vec<TypeInfo>) -> Result<(), AllocError>
+fn push_type(info: TypeInfo, types: &mut Vec<TypeInfo>) -> Result<(), NamesFault>
     requires info { FitsType info }
     requires types { AllByRecursion FitsType types.old.items }
     ensures exact { OnOk result (types.new.items ≡ types.old.items ++ info ∷ []) }
     ensures fits { OnOk result (AllByRecursion FitsType types.new.items) }
 {
-    types.push(info)?;
+    push(types, info)?;
     Ok(())
 }
 
@@ -276,7 +276,7 @@ fn push_if(
     is_needed: bool,
     shape: TypeDef,
     types: &mut Vec<TypeInfo>,
-) -> Result<(), AllocError>
+) -> Result<(), NamesFault>
     requires shape { FitsDefinition shape }
     requires types { AllByRecursion FitsType types.old.items }
     ensures exact { OnOk result (types.new.items ≡ types.old.items ++ type_if is_needed shape) }
@@ -296,7 +296,7 @@ fn push_small(
     byte: u32,
     has_byte: bool,
     types: &mut Vec<TypeInfo>,
-) -> Result<(), AllocError>
+) -> Result<(), NamesFault>
     requires { AllByRecursion FitsType types.old.items }
     ensures exact { OnOk result (types.new.items
         ≡ types.old.items ++ small_made needs byte has_byte) }
@@ -333,7 +333,7 @@ fn push_made(
     meaning: &Meaning<'_, '_>,
     small: SmallTypes,
     types: &mut Vec<TypeInfo>,
-) -> Result<(), AllocError>
+) -> Result<(), NamesFault>
     requires { AllByRecursion FitsType types.old.items }
     ensures exact { OnOk result (types.new.items
         ≡ types.old.items ++ made small (stands_for meaning.now)) }
@@ -353,7 +353,7 @@ fn push_all_made(
     things: &[Thing<'_, '_>],
     small: SmallTypes,
     types: &mut Vec<TypeInfo>,
-) -> Result<(), AllocError>
+) -> Result<(), NamesFault>
     requires { AllByRecursion FitsType types.old.items }
     ensures exact { OnOk result (types.new.items
         ≡ types.old.items ++ all_made small (all_named things.now)) }
@@ -371,13 +371,12 @@ fn push_all_made(
 ///
 /// # Errors
 ///
-/// `AllocError` if an allocation fails. It also stands for a name of more than `u32::MAX` bytes and
-/// a list of more than `u32::MAX` fields, which no metadata has.
+/// `TooLarge` for more than `u32::MAX` bytes or fields; `OutOfMemory` if an allocation fails.
 pub fn synthetic_types(
     alloc: Global,
     own: &[TypeInfo],
     things: &[Thing<'_, '_>],
-) -> Result<Vec<TypeInfo>, AllocError>
+) -> Result<Vec<TypeInfo>, NamesFault>
     requires { length own.now + length things.now + 4 < 2 ^ 32 }
     ensures exact { IfOk result (λ types.
         types.items ≡ synthetic own.now (all_named things.now)) }

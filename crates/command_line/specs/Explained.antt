@@ -24,13 +24,13 @@ IsStatusOfLine e status = ((status ≡ 2) × IsMistake e)
 abbrev pub IsStatusOf : JobFault → ℕ → Type 0
 IsStatusOf (fault.Line e text) status = IsStatusOfLine e status
 IsStatusOf fault.Usage status = status ≡ 2
-IsStatusOf fault.Memory status = status ≡ 4
+IsStatusOf (fault.Memory _) status = status ≡ 4
 
 -- what is reported about it: the text of `clap`, or one line
 abbrev pub reported_text : JobFault → List ℕ
 reported_text (fault.Line e text) = string_bytes text
 reported_text fault.Usage = codes "scaleview: usage\n"
-reported_text fault.Memory = codes "scaleview: memory\n"
+reported_text (fault.Memory _) = codes "scaleview: memory\n"
 
 -- why the words are rejected: with one of the errors that `clap` has for them, except an allocation
 -- failure; or `clap` has none and they name no job
@@ -38,7 +38,7 @@ abbrev pub IsFaultOfWords : List Text → JobFault → Type 0
 IsFaultOfWords words (fault.Line e text) = HasKind (fault_of line words) e
     × (kind_of e ≢ OutOfMemory)
 IsFaultOfWords words fault.Usage = (fault_of line words ≡ []) × NamesNone (subcommand_of line words)
-IsFaultOfWords words fault.Memory = Unit {0}
+IsFaultOfWords words (fault.Memory _) = Unit {0}
 
 -- what is reported if this device fails
 abbrev pub device_line : Device → List ℕ

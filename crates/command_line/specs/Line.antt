@@ -173,7 +173,7 @@ IsServed (jobs.Decode job) = (job.limits.depth ≤ 1024) × (job.limits.bytes �
 -- the fault, with `Usage` only if P holds, and none of clap
 abbrev pub IsUsageIf : Type 0 → JobFault → Type 0
 IsUsageIf P fault.Usage = P
-IsUsageIf P fault.Memory = Unit {0}
+IsUsageIf P (fault.Memory _) = Unit {0}
 IsUsageIf P (fault.Line error text) = ⊥
 
 -- a value that fits; `Usage` only if none does

@@ -60,7 +60,7 @@ pub fn explain<W: Write, E: Write>(fault: JobFault, out: &mut Sink<W>, err: &mut
             let _ = send(err, b"scaleview: usage\n");
             2
         }
-        JobFault::Memory => {
+        JobFault::Memory(_) => {
             let _ = send(err, b"scaleview: memory\n");
             4
         }

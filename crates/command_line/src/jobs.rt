@@ -13,8 +13,9 @@ use crate::matches::{budget, flag, limit, source, subcommand, text, wanted};
 use crate::task::{DecodeJob, Job};
 use clap::error::ErrorKind;
 use clap::{ArgMatches, Error};
+use growth_core::{Refused, reported, string_from};
 use limits_core::{Limits, MAX_DEPTH};
-use std::alloc::{AllocError, Global};
+use std::alloc::Global;
 
 /// The greatest limit of bytes that is accepted.
 const MAX_BYTES: u64 = 1 << 40;
@@ -34,14 +35,14 @@ pub enum JobFault {
     /// required (status 2).
     Usage,
     /// An allocation failed (status 4).
-    Memory,
+    Memory(Refused),
 }
 
-impl From<AllocError> for JobFault {
-    ghost from_gives = { λ _ f. f ≡ Memory };
+impl From<Refused> for JobFault {
+    ghost from_gives = { λ refused f. f ≡ Memory refused };
 
-    fn from(_error: AllocError) -> JobFault {
-        JobFault::Memory
+    fn from(refused: Refused) -> JobFault {
+        JobFault::Memory(refused)
     }
 }
 
@@ -120,17 +121,17 @@ fn job_of(
         return Err(JobFault::Usage);
     };
     let (job, value_file) = subcommand_job(alloc, name, inner)?;
-    let file = String::from_str(alloc, file)?;
+    let file = string_from(alloc, file)?;
     Ok((job, file, value_file))
 }
 
 /// Returns a copy of the value file's name, if there is one.
-fn owned(alloc: Global, text: Option<&str>) -> Result<Option<String>, AllocError>
+fn owned(alloc: Global, text: Option<&str>) -> Result<Option<String>, Refused>
     ensures { IfOk result (λ owned.
         option_map string_bytes owned ≡ option_map (λ s. s.now) text.entry) }
 {
     match text {
-        Some(text) => Ok(Some(String::from_str(alloc, text)?)),
+        Some(text) => Ok(Some(string_from(alloc, text)?)),
         None => Ok(None),
     }
 }
@@ -155,9 +156,11 @@ pub fn job(alloc: Global, words: &[&str]) -> Result<(Job, String, Option<String>
 {
     match line_matches(alloc, words) {
         Ok(matches) => job_of(alloc, &matches),
-        Err(error) if error.kind() == ErrorKind::OutOfMemory => Err(JobFault::Memory),
+        Err(error) if error.kind() == ErrorKind::OutOfMemory => {
+            Err(JobFault::Memory(Refused::of_library()))
+        }
         Err(error) => {
-            let text = error.to_string(alloc)?;
+            let text = reported(error.to_string(alloc))?;
             Err(JobFault::Line { error, text })
         }
     }

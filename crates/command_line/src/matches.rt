@@ -10,6 +10,7 @@ use crate::jobs::JobFault;
 use crate::names::is_name;
 use crate::task::{ValueSource, Wanted};
 use clap::ArgMatches;
+use growth_core::string_from;
 use std::alloc::Global;
 
 /// Returns the name of the subcommand and its matches.
@@ -94,7 +95,7 @@ pub(crate) fn wanted(alloc: Global, matches: &ArgMatches<'_>, id: &str) -> Resul
         return Err(JobFault::Usage);
     };
     if is_name(word) {
-        return Ok(Wanted::Name(String::from_str(alloc, word)?));
+        return Ok(Wanted::Name(string_from(alloc, word)?));
     }
     match number(word, u64::from(u32::MAX)) {
         Some(id) => Ok(Wanted::Id(id as u32)),

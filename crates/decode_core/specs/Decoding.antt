@@ -2,6 +2,7 @@
 use Rattle.std.specs.Prelude.{◌≡◌, ℕ, suc, ◌+◌, ◌*◌, ◌-◌, ◌≤◌, ◌^◌, ◌⊎◌, List, [], ◌++◌, length}
 use Rattle.std.specs.Prelude.{map, take, Result, Ok, Err, true, Option, Some, None, nat_lt, not}
 use Rattle.std.specs.Prelude.{◌||◌, if◌then◌else◌}
+use Rattle.growth_core.specs.Evidence.{evidence}
 use Rattle.scale_core.specs.Number.{AreBytes}
 use Rattle.types_core.specs.declared.type_info.TypeInfo.{TypeInfo}
 use Rattle.grammar_core.specs.Preorder.{tree_of}
@@ -112,7 +113,7 @@ pub record RanOut (j : Query) (b : List ℕ) (n : ℕ) : Type 0 where
 
 -- why decoding ended: memory ran out, or these bytes have this outcome
 abbrev pub IsEnded : Query → List ℕ → DecodeFault → ℕ → Type 0
-IsEnded j b f n = ((f ≡ record { reason = reason.OutOfMemory; at = 0 }) × RanOut j b n)
+IsEnded j b f n = ((f ≡ record { reason = reason.OutOfMemory evidence; at = 0 }) × RanOut j b n)
     ⊎ (((f ≡ record { reason = reason.TooLong; at = j.bytes }) × IsOutcome j b too_long n)
     ⊎ ((e : Refusal) × (at : ℕ) × (f ≡ record { reason = reason_of e; at = at })
     × IsOutcome j b (refused e at) n))
@@ -210,13 +211,14 @@ AsksAt s piece taken n = (k : ℕ) × (n ≡ taken + k) × RunsOut s piece k
 
 -- if an allocation failure ended a value, the turns on the piece led to it
 abbrev pub FedAsks : Running → List ℕ → ℕ → Fed → Type 0
-FedAsks s piece taken (fed.Ended f n) = f.reason ≡ reason.OutOfMemory → AsksAt s piece taken n
+FedAsks s piece taken (fed.Ended f n) =
+    f.reason ≡ reason.OutOfMemory evidence → AsksAt s piece taken n
 FedAsks s piece taken _ = Unit {0}
 
 -- if an allocation failure is reported with n bytes taken, it was reported before, or the turns on
 -- the part of the piece within the limit led to it from the value so far
 abbrev pub AsksMemory : Decoding → List ℕ → ℕ → DecodeFault → Type 0
-AsksMemory d piece n f = f.reason ≡ reason.OutOfMemory → (d.run ≡ Err f)
+AsksMemory d piece n f = f.reason ≡ reason.OutOfMemory evidence → (d.run ≡ Err f)
     ⊎ ((s : Running) × (d.run ≡ Ok s) × AsksAt s (take (d.query.bytes - d.taken) piece) d.taken n)
 
 -- nothing changed except the numbers of turns and calls
@@ -251,7 +253,7 @@ opening_fault types root limits =
 
 abbrev pub OpensDecoder : Option OpenFault → Decoding → Result Decoding OpenFault → Type 0
 OpensDecoder None first (Ok d) = d ≡ first
-OpensDecoder None first (Err e) = e ≡ opening.OutOfMemory
+OpensDecoder None first (Err e) = e ≡ opening.OutOfMemory evidence
 OpensDecoder (Some f) first (Ok d) = ⊥
 OpensDecoder (Some f) first (Err e) = e ≡ f
 

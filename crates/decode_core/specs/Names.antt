@@ -15,7 +15,7 @@ fault_text fault = reason_name fault.reason ++ (codes " at " ++ decimal fault.at
 abbrev pub open_fault_name : OpenFault → List ℕ
 open_fault_name opening.UnknownType = codes "UnknownType"
 open_fault_name opening.LimitOutOfRange = codes "LimitOutOfRange"
-open_fault_name opening.OutOfMemory = codes "OutOfMemory"
+open_fault_name (opening.OutOfMemory _) = codes "OutOfMemory"
 
 -- why a reader's bytes are not a value: the fault's text, or a name and a place
 abbrev pub stream_fault_text : StreamFault → List ℕ

@@ -3,6 +3,7 @@ use Rattle.std.specs.Prelude.{◌≡◌, ℕ, zero, suc, ◌<◌, ◌≤◌, ◌
 use Rattle.std.specs.Prelude.{List, [], ◌++◌, length, take}
 use Rattle.std.specs.Prelude.{Result, Ok, Err, Option, Some, None, IfSome}
 use Rattle.std.specs.Io.KnownBytes.{Consumes, IsAtEnd, Keeps}
+use Rattle.growth_core.specs.Evidence.{evidence}
 use Rattle.types_core.specs.declared.type_info.TypeInfo.{TypeInfo}
 use Rattle.grammar_core.specs.Tree.{Tree}
 use Rattle.node_core.specs.Shown.{Seen}
@@ -20,7 +21,8 @@ query_of types root limits = (first_of_all types root limits).query
 
 -- the fault that prevents opening a decoder; or there is none, and an allocation failed
 abbrev pub Forbids : Option OpenFault → OpenFault → Type 0
-Forbids forbidden e = (forbidden ≡ Some e) ⊎ ((e ≡ opening.OutOfMemory) × (forbidden ≡ None))
+Forbids forbidden e = (forbidden ≡ Some e)
+    ⊎ ((e ≡ opening.OutOfMemory evidence) × (forbidden ≡ None))
 
 -- a value of the query's type and registry
 abbrev pub IsOfQuery : Query → Seen → Type 0

@@ -122,8 +122,8 @@ fn feed_run<A: Allocator>(
     let fed = taken + count as u64;
     match stopped {
         Stopped::Finished => Fed::Done(count as u64),
-        Stopped::OutOfMemory => {
-            let reason = DecodeReason::OutOfMemory;
+        Stopped::OutOfMemory(refused) => {
+            let reason = DecodeReason::OutOfMemory(refused);
             Fed::Ended(DecodeFault { reason, at: 0 }, fed)
         }
         Stopped::Wants if offered.len() < piece.len() => {

@@ -2,8 +2,8 @@
 
 ghost use Rattle.std.specs.Prelude.{◌≡◌};
 
+use growth_core::Refused;
 use machine_core::DecodeReason;
-use std::alloc::AllocError;
 use std::{error, fmt};
 
 /// The error of a value: its reason, and its place in bytes from the value's start. It is printed
@@ -36,7 +36,7 @@ pub enum OpenFault {
     /// The depth limit is above 1024, or the limit of bytes above 1099511627776.
     LimitOutOfRange,
     /// An allocation failed.
-    OutOfMemory,
+    OutOfMemory(Refused),
 }
 
 impl fmt::Display for OpenFault {
@@ -49,20 +49,20 @@ impl fmt::Display for OpenFault {
         f.write_str(match self {
             OpenFault::UnknownType => "UnknownType",
             OpenFault::LimitOutOfRange => "LimitOutOfRange",
-            OpenFault::OutOfMemory => "OutOfMemory",
+            OpenFault::OutOfMemory(_) => "OutOfMemory",
         })
     }
 }
 
 impl error::Error for OpenFault {}
 
-impl From<AllocError> for OpenFault {
+impl From<Refused> for OpenFault {
     ghost use Rattle.std.specs.Prelude.{◌≡◌};
     ghost use Rattle.decode_core.specs.declared.fault.OpenFault.TheVariants.{OutOfMemory};
 
-    ghost from_gives = { λ _ r. r ≡ OutOfMemory };
+    ghost from_gives = { λ refused fault. fault ≡ OutOfMemory refused };
 
-    fn from(_: AllocError) -> OpenFault {
-        OpenFault::OutOfMemory
+    fn from(refused: Refused) -> OpenFault {
+        OpenFault::OutOfMemory(refused)
     }
 }

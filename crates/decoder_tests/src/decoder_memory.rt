@@ -2,6 +2,7 @@
 
 use crate::expect::{printed_as, same};
 use decode_core::{DecodeFault, DecodeReason, Decoder, OpenFault, StreamFault};
+use growth_core::Refused;
 use linked_list_allocator::LocalHeap;
 use scale_core::{Source, write_compact};
 use scale_tests::building::{checked, is_written};
@@ -19,10 +20,18 @@ use widths_core::Checked;
 const NESTED_BYTES: &[u8] =
     b"\x08ab\x0c\x04\x01\x08\x02\x03\x00\x01\x01\x01\x00\x10\xc3\xa9\xc3\xa9";
 
-pub(crate) const REFUSED: DecodeFault = DecodeFault {
-    reason: DecodeReason::OutOfMemory,
-    at: 0,
-};
+/// Returns the fault of a failed allocation.
+pub(crate) fn refused() -> DecodeFault {
+    DecodeFault {
+        reason: DecodeReason::OutOfMemory(Refused::of_library()),
+        at: 0,
+    }
+}
+
+/// Returns the error of a decoder whose first allocation fails.
+fn unopened() -> OpenFault {
+    OpenFault::OutOfMemory(Refused::of_library())
+}
 
 /// Checks the error with which a decoder is created while this request fails.
 fn check_opening(
@@ -50,7 +59,7 @@ fn check_no_read(rt: &impl Abort, alloc: Global, checked: &Checked, request: u64
     let memory = Rationed::new(alloc, request);
     let mut source = Source::new(PacedReader::new(b"", 1, Then::Fails));
     let fault = all_of(memory, checked, 5, AMPLE, &mut source).err();
-    same(rt, fault, Some(StreamFault::Open(OpenFault::OutOfMemory)));
+    same(rt, fault, Some(StreamFault::Open(unopened())));
     same(rt, source.failed(), false);
 }
 
@@ -60,13 +69,7 @@ fn check_no_read(rt: &impl Abort, alloc: Global, checked: &Checked, request: u64
 fn memory_that_is_refused_at_first_makes_no_decoder(rt: HostRuntime) {
     let checked = checked(rt.alloc(), NESTED).expect(&rt, "a registry");
     'requests: for request in 1..=2 {
-        check_opening(
-            &rt,
-            rt.alloc(),
-            &checked,
-            request,
-            Some(OpenFault::OutOfMemory),
-        );
+        check_opening(&rt, rt.alloc(), &checked, request, Some(unopened()));
         check_no_value(&rt, rt.alloc(), &checked, request);
         check_no_read(&rt, rt.alloc(), &checked, request);
     }
@@ -78,7 +81,7 @@ fn memory_that_is_refused_at_first_makes_no_decoder(rt: HostRuntime) {
 fn place_of_refusal<A: Allocator>(rt: &impl Abort, decoder: &mut Decoder<'_, A>) -> Option<u64> {
     'bytes: for (place, byte) in NESTED_BYTES.iter().enumerate() {
         if let Err(fault) = feed(decoder, &[*byte]) {
-            same(rt, fault, REFUSED);
+            same(rt, fault, refused());
             return Some(place as u64);
         }
     }
@@ -100,10 +103,10 @@ fn check_refused<A: Allocator>(rt: &impl Abort, decoder: Decoder<'_, A>, place: 
     };
     same(rt, held(&decoder), nothing);
     'pieces: for piece in [b"".as_slice(), NESTED_BYTES] {
-        same(rt, feed(&mut decoder, piece), Err(REFUSED));
+        same(rt, feed(&mut decoder, piece), Err(refused()));
         same(rt, held(&decoder), nothing);
     }
-    same(rt, finish(decoder).err(), Some(REFUSED));
+    same(rt, finish(decoder).err(), Some(refused()));
 }
 
 /// How the nested value is decoded.
@@ -157,7 +160,7 @@ fn value_of_reader<'r, A: Allocator + Clone>(
     match all_of(memory, checked, 5, AMPLE, &mut source) {
         Ok(value) => Some(value),
         Err(fault) => {
-            same(rt, fault, StreamFault::Decode(REFUSED));
+            same(rt, fault, StreamFault::Decode(refused()));
             None
         }
     }
@@ -273,7 +276,7 @@ fn fails(rt: &impl Abort, alloc: Global, long: &Long<'_>, piece: usize, request:
     let fault = feed_all(&mut decoder, long.bytes, piece);
     let is_made = memory.is_past_refusal();
     let (wanted, nodes) = if is_made {
-        (Some(REFUSED), 0)
+        (Some(refused()), 0)
     } else {
         (None, long.nodes)
     };
@@ -349,7 +352,7 @@ fn fails_to_finish(
     same(
         rt,
         reported,
-        if is_made { Some(REFUSED) } else { untroubled },
+        if is_made { Some(refused()) } else { untroubled },
     );
     is_made
 }

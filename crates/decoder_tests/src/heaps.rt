@@ -1,7 +1,7 @@
 //! Decoders on heaps of fixed size: a claimed length allocates nothing, and a decoder that exceeds
 //! the heap fails for good.
 
-use crate::decoder_memory::{REFUSED, letters};
+use crate::decoder_memory::{letters, refused};
 use crate::expect::same;
 use decode_core::{DecodeFault, DecodeReason, Decoder, Progress};
 use linked_list_allocator::LocalHeap;
@@ -98,7 +98,7 @@ fn a_claimed_length_takes_room_by_what_came(rt: HostRuntime) {
 
 /// Feeds a piece whose allocation fails, and checks that the decoder then holds nothing.
 fn check_refused(rt: &impl Abort, decoder: &mut Decoder<'_, &LocalHeap>, piece: &[u8]) {
-    same(rt, feed(decoder, piece), Err(REFUSED));
+    same(rt, feed(decoder, piece), Err(refused()));
     let Holding { nodes, texts, .. } = held(decoder);
     same(rt, nodes, 0);
     same(rt, texts, 0);
@@ -122,7 +122,7 @@ fn check_exceeded(rt: &impl Abort, heap: &LocalHeap, checked: &Checked, many: &[
     'pieces: for piece in [b"".as_slice(), b"\x07", many] {
         check_refused(rt, &mut decoder, piece);
     }
-    same(rt, finish(decoder).err(), Some(REFUSED));
+    same(rt, finish(decoder).err(), Some(refused()));
 }
 
 // A failed allocation ends a decoder for good.

@@ -1,6 +1,6 @@
 //! Values decoded from readers that fail, and values that end at the edge of a read.
 
-use crate::decoder_memory::{REFUSED, letters};
+use crate::decoder_memory::{letters, refused};
 use crate::expect::{printed_as, same};
 use decode_core::{OpenFault, StreamFault};
 use scale_core::Source;
@@ -127,10 +127,10 @@ fn a_byte_after_is_reported_at_the_edge_of_a_read(rt: HostRuntime) {
 // The rows of the tables print every other reason.
 #[test]
 fn faults_are_printed_by_their_names(rt: HostRuntime) {
-    printed_as(&rt, rt.alloc(), REFUSED, "OutOfMemory at 0");
+    printed_as(&rt, rt.alloc(), refused(), "OutOfMemory at 0");
     let lines = [
         (StreamFault::Open(OpenFault::UnknownType), "UnknownType"),
-        (StreamFault::Decode(REFUSED), "OutOfMemory at 0"),
+        (StreamFault::Decode(refused()), "OutOfMemory at 0"),
         (StreamFault::TrailingBytes { at: 2 }, "TrailingBytes at 2"),
         (StreamFault::Device, "Device"),
     ];

@@ -38,7 +38,7 @@ fn print_line(alloc: Global, value: &Sampled<'_, Global>) -> &'static str {
             !failed && left == ROOM - text.len() && buffer.starts_with(text),
             "print: the whole text is written\n",
         ),
-        Err(PrintFault::OutOfMemory) => line_where(
+        Err(PrintFault::OutOfMemory(_)) => line_where(
             !failed && left == ROOM,
             "print: out of memory, nothing is written\n",
         ),
@@ -78,7 +78,7 @@ pub(crate) fn value_text_line(alloc: Global) -> Option<&'static str> {
             text.as_str() == sample::TEXT,
             "value_text: the whole text\n",
         ),
-        Err(ValueRefusal::Memory) => "value_text: out of memory\n",
+        Err(ValueRefusal::Memory(_)) => "value_text: out of memory\n",
         Err(_) => OTHER,
     })
 }
@@ -138,7 +138,7 @@ pub(crate) fn new_line(alloc: Global) -> Option<&'static str> {
     let registry = sample::registry(alloc)?;
     Some(match Checked::new(alloc, registry) {
         Ok(_) => "Checked::new: checked\n",
-        Err((CheckFault::OutOfMemory, registry)) => line_where(
+        Err((CheckFault::OutOfMemory(_), registry)) => line_where(
             is_sample(alloc, &registry) && Checked::new(alloc, registry).is_ok(),
             "Checked::new: out of memory, the registry is back, a second call succeeds\n",
         ),
@@ -158,7 +158,7 @@ fn read_line(
         Ok((_, taken)) if taken == len => done,
         Err(
             RegistryFault {
-                reason: RegistryReason::OutOfMemory,
+                reason: RegistryReason::OutOfMemory(_),
                 at: 0,
             },
         ) => refused,
@@ -211,6 +211,6 @@ pub(crate) fn job_line(alloc: Global, words: &[&str]) -> &'static str {
         Ok(_) => OTHER,
         Err(JobFault::Line { .. }) => "job: what clap says of the line\n",
         Err(JobFault::Usage) => "job: usage\n",
-        Err(JobFault::Memory) => "job: out of memory\n",
+        Err(JobFault::Memory(_)) => "job: out of memory\n",
     }
 }

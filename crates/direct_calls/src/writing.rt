@@ -1,6 +1,7 @@
 //! The calls that append one value to a vector. Each is made once, and a line reports its outcome.
 
 use crate::calls::line_where;
+use growth_core::Refused;
 use scale_core::{
     write_bool, write_char, write_compact, write_i8, write_i16, write_i32, write_i64, write_i128,
     write_text, write_u8, write_u16, write_u32, write_u64, write_u128, write_wide,
@@ -11,7 +12,7 @@ use std::alloc::{AllocError, Global};
 const FRONT: &[u8] = b"front";
 
 /// The result of a call, and the bytes that it should write.
-type Written = (Result<(), AllocError>, &'static [u8]);
+type Written = (Result<(), Refused>, &'static [u8]);
 
 /// Makes the call of this name, if it writes an unsigned integer.
 fn write_unsigned(out: &mut Vec<u8>, name: &str) -> Option<Written> {
@@ -82,7 +83,7 @@ pub(crate) fn write_line(alloc: Global, name: &str) -> Result<Option<&'static st
             out.as_slice().strip_prefix(FRONT) == Some(bytes),
             "write: the bytes stand after what was there\n",
         ),
-        Err(AllocError) => line_where(
+        Err(_) => line_where(
             out.as_slice() == FRONT,
             "write: out of memory, the vector is unchanged\n",
         ),

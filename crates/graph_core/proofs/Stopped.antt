@@ -77,7 +77,8 @@ stops_later xs ks a b c h k = record {
 pub stops_after : (xs ys zs tos ks : List ℕ) (a b c : Graph) (o : LinkStop) →
     tos ≡ xs ++ (ys ++ zs) →
     ReadsReferences a b xs ks → StopsLinking ys b c o → StopsLinking tos a c o
-stops_after xs ys zs tos ks a b c stop.Memory e h k = stops_later xs ks a b c h k
+stops_after xs ys zs tos ks a b c (stop.Memory _) e h k = stops_later xs ks a b c h k
+stops_after xs ys zs tos ks a b c (stop.TooMany _) e h k = stops_later xs ks a b c h k
 stops_after xs ys zs tos ks a b c (stop.Unknown u) e h k =
     stops_beyond xs ys zs tos ks a b c u e h k
 

@@ -254,7 +254,9 @@ fault_from r g h =
 pub refused_for : (r : List TypeInfo) (i : ℕ) (d : TypeDef) (tos : List ℕ) (b c : Graph)
     (o : LinkStop) → IsOpenedNext r b i d → tos ≡ references d → StopsLinking tos b c o →
     IsRefusedFor r c (fault_in i o)
-refused_for r i d tos b c stop.Memory h e k =
+refused_for r i d tos b c (stop.Memory _) h e k =
+    way_on r b c k.front h.way k.on (rw h.way.reading.types at k.known)
+refused_for r i d tos b c (stop.TooMany _) h e k =
     way_on r b c k.front h.way k.on (rw h.way.reading.types at k.known)
 refused_for r i d tos b c (stop.Unknown u) h e k =
     let known : AreKnown (length r) k.front = rw h.way.reading.types at k.known in

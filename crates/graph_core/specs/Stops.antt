@@ -5,7 +5,8 @@ use Rattle.std.specs.Prelude.{Option, Some, None}
 use Rattle.types_core.specs.declared.definition.TypeDef.{TypeDef}
 use Rattle.types_core.specs.declared.type_info.TypeInfo.{TypeInfo}
 use Rattle.graph_core.specs.declared.fault.CheckFault.{CheckFault}
-use Rattle.graph_core.specs.declared.fault.CheckFault.TheVariants.{UnknownType, OutOfMemory}
+use Rattle.graph_core.specs.declared.fault.CheckFault.TheVariants.{OutOfMemory, TooLarge}
+use Rattle.graph_core.specs.declared.fault.CheckFault.TheVariants.{UnknownType}
 use Rattle.graph_core.specs.declared.graph.Graph.{Graph}
 use Rattle.graph_core.specs.declared.looks.Looks.{Looks}
 use Rattle.graph_core.specs.declared.link_stop.LinkStop.{LinkStop}
@@ -32,21 +33,30 @@ pub record StopsBetween (a b : Graph) : Type 0 where
   pub known : AreKnown (length a.registry) front
   pub on : ReadsOn a b front
 
--- linking stopped at an allocation failure, or at the first of these references that is not a
--- position
+-- linking stopped at an allocation failure, where a number did not fit, or at the first of these
+-- references that is not a position
 abbrev pub StopsLinking : List ℕ → Graph → Graph → LinkStop → Type 0
-StopsLinking tos a b stop.Memory = StopsBetween a b
+StopsLinking tos a b (stop.Memory _) = StopsBetween a b
+StopsLinking tos a b (stop.TooMany _) = StopsBetween a b
 StopsLinking tos a b (stop.Unknown u) = StopsAt tos a b u
+
+-- linking stopped at no reference
+abbrev pub IsShort : LinkStop → Type 0
+IsShort (stop.Memory _) = Unit {0}
+IsShort (stop.TooMany _) = Unit {0}
+IsShort (stop.Unknown u) = ⊥
 
 -- the same as a fault of the type at this position
 abbrev pub fault_in : ℕ → LinkStop → CheckFault
-fault_in i stop.Memory = OutOfMemory
+fault_in i (stop.Memory refused) = OutOfMemory refused
+fault_in i (stop.TooMany many) = TooLarge many
 fault_in i (stop.Unknown u) = UnknownType (record { 0 = i }) (record { 0 = u })
 
--- the fault is the unknown reference, or an allocation failure if there is none
+-- the fault is the unknown reference; any other is only where there is none
 abbrev pub IsFaultOf : CheckFault → Option (ℕ × ℕ) → Type 0
 IsFaultOf (UnknownType from to) unknown = unknown ≡ Some (from.0, to.0)
-IsFaultOf OutOfMemory unknown = unknown ≡ None
+IsFaultOf (TooLarge _) unknown = unknown ≡ None
+IsFaultOf (OutOfMemory _) unknown = unknown ≡ None
 
 -- each type was looked at no more than twice, and each reference of the definitions no more than
 -- once, in order; no list was looked at
@@ -77,12 +87,19 @@ pub record IsUnderWay (r : List TypeInfo) (g : Graph) : Type 0 where
   pub reading : IsReading r g
   pub known : AreKnown (length r) (refs g)
 
--- an unknown reference is the first one, found with few looks; after an allocation failure, the
--- types can be read on
+-- an unknown reference is the first one, found with few looks; after another fault, the types can
+-- be read on
 abbrev pub IsRefusedFor : List TypeInfo → Graph → CheckFault → Type 0
 IsRefusedFor r g (UnknownType from to) = (first_fault r ≡ Some (from.0, to.0))
     × HasFewLooksUntil r g.looks × (g.registry ≡ r)
-IsRefusedFor r g OutOfMemory = IsUnderWay r g
+IsRefusedFor r g (TooLarge _) = IsUnderWay r g
+IsRefusedFor r g (OutOfMemory _) = IsUnderWay r g
+
+-- the fault says nothing of the references
+abbrev pub IsGivenUp : CheckFault → Type 0
+IsGivenUp (UnknownType from to) = ⊥
+IsGivenUp (TooLarge _) = Unit {0}
+IsGivenUp (OutOfMemory _) = Unit {0}
 
 -- the fault, found with few looks
 pub record IsFaultWithin (r : List TypeInfo) (g : Graph) (fault : CheckFault) : Type 0 where
@@ -93,7 +110,8 @@ pub record IsFaultWithin (r : List TypeInfo) (g : Graph) (fault : CheckFault) : 
 -- an unknown reference was found with few looks
 abbrev pub HasFewLooksFor : List TypeInfo → Looks → CheckFault → Type 0
 HasFewLooksFor r l (UnknownType from to) = HasFewLooksUntil r l
-HasFewLooksFor r l OutOfMemory = Unit {0}
+HasFewLooksFor r l (TooLarge _) = HasFewLooksUntil r l
+HasFewLooksFor r l (OutOfMemory _) = Unit {0}
 
 -- the fault that is returned; an unknown reference was found with few looks
 pub record IsAnsweredFault (r : List TypeInfo) (g : Graph) (fault : CheckFault) : Type 0 where

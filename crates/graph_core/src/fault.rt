@@ -1,9 +1,10 @@
 //! Why a registry is rejected.
 
 ghost use Rattle.std.specs.Prelude.{◌≡◌};
-ghost use Rattle.graph_core.specs.declared.fault.CheckFault.TheVariants.{OutOfMemory};
+ghost use Rattle.graph_core.specs.declared.fault.CheckFault.TheVariants.{OutOfMemory, TooLarge};
 
-use std::alloc::{AllocError, AllocFailed};
+use crate::too_many::TooMany;
+use growth_core::Refused;
 use types_core::TypeId;
 
 /// The reason why a registry is rejected.
@@ -11,22 +12,24 @@ use types_core::TypeId;
 pub enum CheckFault {
     /// The type `from` refers to the type `to`, which is not in the registry.
     UnknownType { from: TypeId, to: TypeId },
+    /// There are more references, or more types and arms, than numbers of 32 bits.
+    TooLarge(TooMany),
     /// An allocation failed.
-    OutOfMemory,
+    OutOfMemory(Refused),
 }
 
-impl From<AllocError> for CheckFault {
-    ghost from_gives = { λ _ fault. fault ≡ OutOfMemory };
+impl From<Refused> for CheckFault {
+    ghost from_gives = { λ refused fault. fault ≡ OutOfMemory refused };
 
-    fn from(_error: AllocError) -> Self {
-        CheckFault::OutOfMemory
+    fn from(refused: Refused) -> Self {
+        CheckFault::OutOfMemory(refused)
     }
 }
 
-impl<T: Drop> From<AllocFailed<T>> for CheckFault {
-    ghost from_gives = { λ _ fault. fault ≡ OutOfMemory };
+impl From<TooMany> for CheckFault {
+    ghost from_gives = { λ many fault. fault ≡ TooLarge many };
 
-    fn from(_error: AllocFailed<T>) -> Self {
-        CheckFault::OutOfMemory
+    fn from(many: TooMany) -> Self {
+        CheckFault::TooLarge(many)
     }
 }

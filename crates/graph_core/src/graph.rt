@@ -1,7 +1,7 @@
 //! The graph of a registry's types and references. Each look at the registry is logged.
 
 ghost use Rattle.std.specs.Prelude.{◌≡◌, ◌<◌, [], ◌∷◌, length, option_map, OnOk, IfOk, IfErr};
-ghost use Rattle.std.specs.Prelude.{IfSome, slice_index};
+ghost use Rattle.std.specs.Prelude.{slice_index};
 ghost use Rattle.types_core.specs.Fits.{FitsRegistry};
 ghost use Rattle.types_core.specs.declared.definition.TypeDef.{TypeDef};
 ghost use Rattle.graph_core.specs.Cursors.{current, next_reference, next_arm, arm_outline};
@@ -22,7 +22,9 @@ use crate::fault::CheckFault;
 use crate::link_stop::LinkStop;
 use crate::looks::Looks;
 use crate::sizes::{Sizes, sizes_in};
-use std::alloc::{AllocError, Global};
+use crate::too_many::{TooMany, number};
+use growth_core::{Refused, filled, push, with_capacity};
+use std::alloc::Global;
 use types_core::{Registry, TypeDef};
 
 /// A reference in the list of the references to one type.
@@ -84,11 +86,14 @@ impl Graph {
         self.registry.types().len()
     }
 
-    /// Returns the sizes of a type, or `None` if one of them is above `usize::MAX`. It logs one
-    /// look at the type.
-    pub(crate) fn measure(&mut self, at: u32) -> Option<Sizes>
+    /// Returns the sizes of a type. It logs one look at the type.
+    ///
+    /// # Errors
+    ///
+    /// `TooMany` if one of them is above `usize::MAX`.
+    pub(crate) fn measure(&mut self, at: u32) -> Result<Sizes, TooMany>
         requires { at < length self.old.registry }
-        ensures sizes { IfSome result (λ s. (d : TypeDef)
+        ensures sizes { IfOk result (λ s. (d : TypeDef)
             × (shape self.old.registry at ≡ Some d) × AreSizesOf d s) }
         ensures glanced { IsGlanced self.old self.new at }
     {
@@ -101,15 +106,15 @@ impl Graph {
     ///
     /// # Errors
     ///
-    /// `AllocError` if an allocation fails; the registry, the reading and the logs are unchanged.
-    pub fn prepare(&mut self, alloc: Global, references: usize) -> Result<(), AllocError>
+    /// `Refused` if an allocation fails; the registry, the reading and the logs are unchanged.
+    pub fn prepare(&mut self, alloc: Global, references: usize) -> Result<(), Refused>
         requires { IsMeasured self.old.registry self.old }
         ensures made { OnOk result (IsNew self.new) }
         ensures waits { Waits self.old self.new }
     {
-        self.newest = vec![in alloc; 0; self.registry.types().len()]?;
-        self.links = Vec::with_capacity(alloc, references)?;
-        self.members = Vec::with_capacity(alloc, references)?;
+        self.newest = filled(alloc, 0, self.registry.types().len())?;
+        self.links = with_capacity(alloc, references)?;
+        self.members = with_capacity(alloc, references)?;
         Ok(())
     }
 
@@ -200,7 +205,8 @@ impl Graph {
     /// # Errors
     ///
     /// - `Unknown` if the reference is not a position of the registry.
-    /// - `Memory` if an allocation fails, or if 4294967295 references were read before.
+    /// - `TooMany` if 4294967295 references were read before.
+    /// - `Memory` if an allocation fails.
     ///
     /// After an error the reading has passed the reference and its look is logged, but it is in no
     /// list.
@@ -215,13 +221,11 @@ impl Graph {
         if to >= self.registry.types().len() {
             return Err(LinkStop::Unknown(id));
         }
-        if self.links.len() >= u32::MAX as usize {
-            return Err(LinkStop::Memory);
-        }
+        let count = number(self.links.len() + 1)?;
         let before = self.newest[to];
-        self.members.push(id)?;
-        self.links.push(Link { counter, before })?;
-        self.newest[to] = self.links.len() as u32;
+        push(&mut self.members, id)?;
+        push(&mut self.links, Link { counter, before })?;
+        self.newest[to] = count;
         Ok(id)
     }
 

@@ -13,6 +13,7 @@ mod link_stop;
 mod looks;
 mod references;
 mod sizes;
+mod too_many;
 
 pub use definition::Definition;
 pub use examined::Examined;
@@ -22,3 +23,4 @@ pub use link_stop::LinkStop;
 pub use looks::Looks;
 pub use references::{Reference, first_unknown};
 pub use sizes::{Sizes, sizes_of};
+pub use too_many::{TooMany, number};

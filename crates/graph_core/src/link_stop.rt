@@ -2,17 +2,20 @@
 
 ghost use Rattle.std.specs.Prelude.{◌≡◌};
 ghost use Rattle.graph_core.specs.Stops.{fault_in};
-ghost use Rattle.graph_core.specs.declared.link_stop.LinkStop.TheVariants.{Memory};
+ghost use Rattle.graph_core.specs.declared.link_stop.LinkStop.TheVariants.{Memory, TooMany};
 
 use crate::fault::CheckFault;
-use std::alloc::{AllocError, AllocFailed};
+use crate::too_many::TooMany;
+use growth_core::Refused;
 use types_core::TypeId;
 
 /// The reason why the linking of a type stopped.
 #[derive(Clone, Copy)]
 pub enum LinkStop {
-    /// An allocation failed, or there are more references or counters than numbers for them.
-    Memory,
+    /// An allocation failed.
+    Memory(Refused),
+    /// There are more references or counters than numbers for them.
+    TooMany(TooMany),
     /// A reference is to this id, which is not a position of the registry.
     Unknown(u32),
 }
@@ -23,7 +26,8 @@ impl LinkStop {
         ensures { result ≡ fault_in position self }
     {
         match self {
-            LinkStop::Memory => CheckFault::OutOfMemory,
+            LinkStop::Memory(refused) => CheckFault::OutOfMemory(refused),
+            LinkStop::TooMany(many) => CheckFault::TooLarge(many),
             LinkStop::Unknown(to) => CheckFault::UnknownType {
                 from: TypeId(position),
                 to: TypeId(to),
@@ -32,18 +36,18 @@ impl LinkStop {
     }
 }
 
-impl From<AllocError> for LinkStop {
-    ghost from_gives = { λ _ stop. stop ≡ Memory };
+impl From<Refused> for LinkStop {
+    ghost from_gives = { λ refused stop. stop ≡ Memory refused };
 
-    fn from(_error: AllocError) -> Self {
-        LinkStop::Memory
+    fn from(refused: Refused) -> Self {
+        LinkStop::Memory(refused)
     }
 }
 
-impl<T: Drop> From<AllocFailed<T>> for LinkStop {
-    ghost from_gives = { λ _ stop. stop ≡ Memory };
+impl From<TooMany> for LinkStop {
+    ghost from_gives = { λ many stop. stop ≡ TooMany many };
 
-    fn from(_error: AllocFailed<T>) -> Self {
-        LinkStop::Memory
+    fn from(many: TooMany) -> Self {
+        LinkStop::TooMany(many)
     }
 }

@@ -2,7 +2,8 @@
 //!
 //! They are counted before memory is allocated for them.
 
-ghost use Rattle.std.specs.Prelude.{◌≡◌, ◌<◌, ◌^◌, length, flat_map, map, IfSome};
+ghost use Rattle.std.specs.Prelude.{◌≡◌, ◌<◌, ◌≤◌, ◌+◌, ◌^◌, length, flat_map, map};
+ghost use Rattle.std.specs.Prelude.{IfOk, OnErr};
 ghost use Rattle.types_core.specs.Fits.{FitsList, FitsArm, FitsDefinition, FitsRegistry};
 ghost use Rattle.graph_core.specs.Cursors.{arm_references};
 ghost use Rattle.graph_core.specs.Graphs.{AreSeen, IsMeasured, IsUnread};
@@ -10,6 +11,7 @@ ghost use Rattle.graph_core.specs.Sizes.{AreSizes, AreSizesOf};
 ghost use Rattle.graph_core.specs.Widths.{greatest};
 
 use crate::graph::Graph;
+use crate::too_many::TooMany;
 use types_core::{Arm, TypeDef};
 
 /// The numbers of references and arms of types, and the greatest number of parts of a value of one
@@ -23,16 +25,35 @@ pub struct Sizes {
     pub widest: u32,
 }
 
-/// Returns the number of fields of these arms, or `None` if it is above `usize::MAX`.
-fn field_count(arms: &[Arm]) -> Option<usize>
-    ensures { IfSome result (λ n. n ≡ length (arm_references arms.now)) }
+/// Returns the sum of two numbers.
+///
+/// # Errors
+///
+/// `TooMany` if it is above `usize::MAX`.
+fn sum(a: usize, b: usize) -> Result<usize, TooMany>
+    ensures same { IfOk result (λ n. n ≡ a + b) }
+    ensures large { OnErr result (2 ^ 64 ≤ a + b) }
+{
+    match a.checked_add(b) {
+        Some(sum) => Ok(sum),
+        None => Err(TooMany::new()),
+    }
+}
+
+/// Returns the number of fields of these arms.
+///
+/// # Errors
+///
+/// `TooMany` if it is above `usize::MAX`.
+fn field_count(arms: &[Arm]) -> Result<usize, TooMany>
+    ensures { IfOk result (λ n. n ≡ length (arm_references arms.now)) }
 {
     let mut count = 0usize;
     'counted: for position in 0..arms.len() {
         let arm = &arms[position];
-        count = count.checked_add(arm.fields.len())?;
+        count = sum(count, arm.fields.len())?;
     }
-    Some(count)
+    Ok(count)
 }
 
 /// Returns the greatest number of fields of one of these arms.
@@ -51,10 +72,12 @@ fn widest_arm(arms: &[Arm]) -> u32
 /// Returns the numbers of references and arms of a definition, and the greatest number of parts of
 /// a value of it.
 ///
-/// `None` if one of them is above `usize::MAX`.
-pub(crate) fn sizes_in(shape: &TypeDef) -> Option<Sizes>
+/// # Errors
+///
+/// `TooMany` if one of them is above `usize::MAX`.
+pub(crate) fn sizes_in(shape: &TypeDef) -> Result<Sizes, TooMany>
     requires { FitsDefinition shape.now }
-    ensures { IfSome result (λ s. AreSizesOf shape.now s) }
+    ensures { IfOk result (λ s. AreSizesOf shape.now s) }
 {
     let (references, arms, widest) = match shape {
         TypeDef::Composite(fields) => (fields.len(), 0, fields.len() as u32),
@@ -66,33 +89,37 @@ pub(crate) fn sizes_in(shape: &TypeDef) -> Option<Sizes>
         TypeDef::Sequence(_) | TypeDef::Array(..) | TypeDef::Compact(_) => (1, 0, 0),
         TypeDef::Primitive(_) | TypeDef::BitSequence { .. } => (0, 0, 0),
     };
-    Some(Sizes {
+    Ok(Sizes {
         references,
         arms,
         widest,
     })
 }
 
-/// Returns the sizes of the types of a graph, or `None` if one of them is above `usize::MAX`.
+/// Returns the sizes of the types of a graph.
 ///
 /// It takes one look at each type, and none at a reference.
-pub fn sizes_of(graph: &mut Graph) -> Option<Sizes>
+///
+/// # Errors
+///
+/// `TooMany` if one of them is above `usize::MAX`.
+pub fn sizes_of(graph: &mut Graph) -> Result<Sizes, TooMany>
     requires fits { FitsRegistry graph.old.registry }
     requires unread { IsUnread graph.old.registry graph.old }
-    ensures sizes { IfSome result (λ s. AreSizes graph.old.registry s) }
+    ensures sizes { IfOk result (λ s. AreSizes graph.old.registry s) }
     ensures measured { IsMeasured graph.old.registry graph.new }
-    ensures seen { IfSome result (λ _. AreSeen graph.old.registry graph.new) }
+    ensures seen { IfOk result (λ _. AreSeen graph.old.registry graph.new) }
 {
     let mut references = 0usize;
     let mut arms = 0usize;
     let mut widest = 0;
     'types: for position in 0..graph.count() {
         let sizes = graph.measure(position as u32)?;
-        references = references.checked_add(sizes.references)?;
-        arms = arms.checked_add(sizes.arms)?;
+        references = sum(references, sizes.references)?;
+        arms = sum(arms, sizes.arms)?;
         widest = widest.max(sizes.widest);
     }
-    Some(Sizes {
+    Ok(Sizes {
         references,
         arms,
         widest,

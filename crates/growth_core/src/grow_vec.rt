@@ -3,10 +3,12 @@
 ghost use Rattle.std.specs.Prelude.{◌≡◌, ◌≤◌, ◌<◌, ◌+◌, ◌++◌, ◌∷◌, [], ◌==◌, ◌↔◌, length, max};
 ghost use Rattle.std.specs.Prelude.{true, false, OnOk, OnErr, IsOk, IsSome, Some, slice_get};
 ghost use Rattle.std.specs.Prelude.{slice_set, option_to_list, vec_len, vec_capacity};
-ghost use Rattle.growth_core.specs.Growth.{least_ahead, most_ahead};
+ghost use Rattle.growth_core.specs.Growth.{ahead};
 
 use crate::growth::{make_room, make_room_ahead};
-use std::alloc::{AllocError, Allocator};
+use crate::refused::Refused;
+use crate::vectors::extend_from_slice;
+use std::alloc::Allocator;
 
 /// The greatest number of elements that one call of [`GrowVec::make_room`] may ask for.
 pub const FEW_ELEMENTS: usize = 64;
@@ -69,17 +71,17 @@ impl<T, A: Allocator> GrowVec<T, A> {
     ///
     /// # Errors
     ///
-    /// `AllocError` if the allocation fails; the list is unchanged then.
+    /// `Refused` if the allocation fails; the list is unchanged then.
     #[inline(always)]
-    pub fn make_room(&mut self, more: usize, expected: Option<usize>) -> Result<(), AllocError>
+    pub fn make_room(&mut self, more: usize, expected: Option<usize>) -> Result<(), Refused>
         requires few { more ≤ FEW_ELEMENTS }
         ensures items { self.new.list.items ≡ self.old.list.items }
         ensures room { OnOk result
             (vec_len self.new.list + more ≤ vec_capacity self.new.list) }
         ensures most { vec_capacity self.new.list ≤ max (vec_capacity self.old.list)
-            (vec_len self.old.list + max more (most_ahead (vec_len self.old.list) expected)) }
+            (vec_len self.old.list + max more (ahead (vec_len self.old.list) expected)) }
         ensures least { vec_capacity self.old.list < vec_capacity self.new.list →
-            vec_len self.old.list + least_ahead (vec_len self.old.list) expected
+            vec_len self.old.list + max more (ahead (vec_len self.old.list) expected)
             ≤ vec_capacity self.new.list }
     {
         if self.has_room(more) {
@@ -92,13 +94,13 @@ impl<T, A: Allocator> GrowVec<T, A> {
     ///
     /// # Errors
     ///
-    /// `AllocError` if the allocation fails; the list is unchanged then.
-    pub fn make_room_ahead(&mut self, expected: usize) -> Result<(), AllocError>
+    /// `Refused` if the allocation fails; the list is unchanged then.
+    pub fn make_room_ahead(&mut self, expected: usize) -> Result<(), Refused>
         ensures items { self.new.list.items ≡ self.old.list.items }
         ensures most { vec_capacity self.new.list ≤ max (vec_capacity self.old.list)
-            (vec_len self.old.list + most_ahead (vec_len self.old.list) (Some expected)) }
+            (vec_len self.old.list + ahead (vec_len self.old.list) (Some expected)) }
         ensures least { vec_capacity self.old.list < vec_capacity self.new.list →
-            vec_len self.old.list + least_ahead (vec_len self.old.list) (Some expected)
+            vec_len self.old.list + ahead (vec_len self.old.list) (Some expected)
             ≤ vec_capacity self.new.list }
     {
         make_room_ahead(&mut self.list, expected)
@@ -153,13 +155,13 @@ impl<T: Copy, A: Allocator> GrowVec<T, A> {
     ///
     /// # Errors
     ///
-    /// `AllocError` if the allocation fails; the list keeps its elements.
+    /// `Refused` if the allocation fails; the list keeps its elements.
     #[inline(always)]
     pub fn extend_from_slice(
         &mut self,
         values: &[T],
         expected: Option<usize>,
-    ) -> Result<(), AllocError>
+    ) -> Result<(), Refused>
         ensures ok { OnOk result (self.new.list.items ≡ self.old.list.items ++ values.now) }
         ensures err { OnErr result (self.new.list.items ≡ self.old.list.items) }
         ensures capacity { vec_capacity self.old.list ≤ vec_capacity self.new.list }
@@ -169,6 +171,6 @@ impl<T: Copy, A: Allocator> GrowVec<T, A> {
         if !self.has_room(values.len()) {
             make_room(&mut self.list, values.len(), expected)?;
         }
-        self.list.extend_from_slice(values)
+        extend_from_slice(&mut self.list, values)
     }
 }

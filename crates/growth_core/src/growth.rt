@@ -1,10 +1,11 @@
 //! The growth rule of vectors: for how many elements a full vector reserves capacity.
 
-ghost use Rattle.std.specs.Prelude.{◌≡◌, ◌<◌, ◌≤◌, ◌+◌, ◌/◌, max, Some, None, OnOk};
+ghost use Rattle.std.specs.Prelude.{◌≡◌, ◌<◌, ◌≤◌, ◌+◌, ◌-◌, ◌^◌, max, OnOk, OnErr};
 ghost use Rattle.std.specs.Prelude.{vec_len, vec_capacity};
-ghost use Rattle.growth_core.specs.Growth.{least_ahead, most_ahead};
+ghost use Rattle.growth_core.specs.Growth.{ahead, ahead_of_end};
 
-use std::alloc::{AllocError, Allocator};
+use crate::refused::Refused;
+use std::alloc::Allocator;
 
 /// The number of elements for which a vector reserves capacity at first.
 pub const FIRST: usize = 16;
@@ -12,16 +13,42 @@ pub const FIRST: usize = 16;
 /// The number of elements from which a vector grows by a quarter; below it, a vector grows by half.
 const LONG: usize = 64 * 1024;
 
+/// Returns the most elements for which a vector of this length reserves capacity at once.
+fn most_ahead(len: usize) -> usize
+    ensures { result ≡ ahead_of_end len (2 ^ 64 - 1) }
+{
+    len.saturating_mul(3).max(FIRST)
+}
+
 /// Returns for how many further elements a full vector of this length reserves capacity.
 fn ahead(len: usize, expected: Option<usize>) -> usize
-    ensures least { least_ahead len expected ≤ result }
-    ensures most { result ≤ most_ahead len expected }
-    ensures quarter { LONG ≤ len → expected ≡ None → result ≤ len / 4 }
+    ensures { result ≡ ahead len expected }
 {
     match expected {
-        Some(expected) => expected.min(len.saturating_mul(3).max(FIRST)),
+        Some(expected) => expected.min(most_ahead(len)).max(len / 8),
         None if len < LONG => (len / 2).max(FIRST),
         None => len / 4,
+    }
+}
+
+/// Reserves capacity for `more` further elements, and for `ahead` if those don't fit.
+fn reserve<T, A: Allocator>(list: &mut Vec<T, A>, more: usize, ahead: usize) -> Result<(), Refused>
+    ensures items { list.new.items ≡ list.old.items }
+    ensures kept { vec_capacity list.old ≤ vec_capacity list.new }
+    ensures room { OnOk result (vec_len list.new + more ≤ vec_capacity list.new) }
+    ensures most { vec_capacity list.new
+        ≤ max (vec_capacity list.old) (vec_len list.old + max more ahead) }
+    ensures least { vec_capacity list.old < vec_capacity list.new →
+        vec_len list.old + max more ahead ≤ vec_capacity list.new }
+    ensures err { OnErr result (vec_capacity list.new ≡ vec_capacity list.old) }
+    ensures full { OnErr result (vec_capacity list.old < vec_len list.old + more) }
+{
+    if more <= list.capacity() - list.len() {
+        return Ok(());
+    }
+    match list.reserve_exact(more.max(ahead)) {
+        Ok(()) => Ok(()),
+        Err(_) => Err(Refused::new()),
     }
 }
 
@@ -33,31 +60,25 @@ fn ahead(len: usize, expected: Option<usize>) -> usize
 ///
 /// # Errors
 ///
-/// `AllocError` if the allocation fails; the vector is unchanged then.
+/// `Refused` if the allocation fails; the vector is unchanged then.
 #[cold]
 #[inline(never)]
 pub fn make_room<T, A: Allocator>(
     list: &mut Vec<T, A>,
     more: usize,
     expected: Option<usize>,
-) -> Result<(), AllocError>
+) -> Result<(), Refused>
     ensures items { list.new.items ≡ list.old.items }
     ensures kept { vec_capacity list.old ≤ vec_capacity list.new }
     ensures room { OnOk result (vec_len list.new + more ≤ vec_capacity list.new) }
-    // To at most four times the length, or to the capacity that is needed.
+    // To what is needed, or to the length and what the rule says, and to no other capacity.
     ensures most { vec_capacity list.new ≤ max (vec_capacity list.old)
-        (vec_len list.old + max more (most_ahead (vec_len list.old) expected)) }
-    ensures quarter { LONG ≤ vec_len list.old → expected ≡ None → vec_capacity list.new
-        ≤ max (vec_capacity list.old) (vec_len list.old + max more (vec_len list.old / 4)) }
-    // If it grows, by at least an eighth, or by all that is expected.
+        (vec_len list.old + max more (ahead (vec_len list.old) expected)) }
     ensures least { vec_capacity list.old < vec_capacity list.new →
-        vec_len list.old + least_ahead (vec_len list.old) expected ≤ vec_capacity list.new }
+        vec_len list.old + max more (ahead (vec_len list.old) expected) ≤ vec_capacity list.new }
+    ensures full { OnErr result (vec_capacity list.old < vec_len list.old + more) }
 {
-    let len = list.len();
-    if more <= list.capacity() - len {
-        return Ok(());
-    }
-    list.reserve_exact(more.max(ahead(len, expected)))
+    reserve(list, more, ahead(list.len(), expected))
 }
 
 /// Reserves capacity for some of the `expected` further elements, if they do not all fit.
@@ -66,20 +87,41 @@ pub fn make_room<T, A: Allocator>(
 ///
 /// # Errors
 ///
-/// `AllocError` if the allocation fails; the vector is unchanged then.
+/// `Refused` if the allocation fails; the vector is unchanged then.
 #[cold]
 #[inline(never)]
 pub fn make_room_ahead<T, A: Allocator>(
     list: &mut Vec<T, A>,
     expected: usize,
-) -> Result<(), AllocError>
+) -> Result<(), Refused>
     ensures items { list.new.items ≡ list.old.items }
     ensures kept { vec_capacity list.old ≤ vec_capacity list.new }
     ensures most { vec_capacity list.new ≤ max (vec_capacity list.old)
-        (vec_len list.old + most_ahead (vec_len list.old) (Some expected)) }
+        (vec_len list.old + ahead (vec_len list.old) (Some expected)) }
     ensures least { vec_capacity list.old < vec_capacity list.new →
-        vec_len list.old + least_ahead (vec_len list.old) (Some expected)
+        vec_len list.old + ahead (vec_len list.old) (Some expected) ≤ vec_capacity list.new }
+{
+    let further = ahead(list.len(), Some(expected));
+    reserve(list, further, further)
+}
+
+/// Reserves capacity for the next element of a vector that will have at most `end`: for those that
+/// are left, up to three times its length or 16.
+///
+/// # Errors
+///
+/// `Refused` if the allocation fails; the vector is unchanged then.
+pub fn make_room_to_end<T, A: Allocator>(list: &mut Vec<T, A>, end: usize) -> Result<(), Refused>
+    ensures items { list.new.items ≡ list.old.items }
+    ensures kept { vec_capacity list.old ≤ vec_capacity list.new }
+    ensures room { OnOk result (vec_len list.new + 1 ≤ vec_capacity list.new) }
+    ensures most { vec_capacity list.new ≤ max (vec_capacity list.old)
+        (vec_len list.old + max 1 (ahead_of_end (vec_len list.old) (end - vec_len list.old))) }
+    ensures least { vec_capacity list.old < vec_capacity list.new → vec_len list.old
+        + max 1 (ahead_of_end (vec_len list.old) (end - vec_len list.old))
         ≤ vec_capacity list.new }
 {
-    list.reserve_exact(ahead(list.len(), Some(expected)))
+    let len = list.len();
+    let further = end.saturating_sub(len).min(most_ahead(len));
+    reserve(list, 1, further)
 }

@@ -43,7 +43,7 @@ hex_bytes text = bytes_after (prefix_len text) (drop (prefix_len text) text)
 -- why a text is rejected, unless an allocation failed
 abbrev pub IsOfHex : Result (List ℕ) HexFault → HexRefusal → Type 0
 IsOfHex bytes (hex.Fault f) = bytes ≡ Err f
-IsOfHex bytes hex.Memory = Unit {0}
+IsOfHex bytes (hex.Memory _) = Unit {0}
 
 -- two digits of either case for each byte, the high one first
 abbrev pub AreDigits : List ℕ → List ℕ → Type 0

@@ -1,5 +1,7 @@
 //! Why a text of hexadecimal digits holds no bytes.
 
+use growth_core::Refused;
+
 /// What is wrong with a text of hexadecimal digits, and where in the text.
 #[derive(Clone, Copy, Debug, PartialEq, Eq)]
 pub enum HexFault {
@@ -15,5 +17,5 @@ pub enum HexRefusal {
     /// The text is not that of any bytes.
     Fault(HexFault),
     /// An allocation failed.
-    Memory,
+    Memory(Refused),
 }

@@ -4,6 +4,7 @@ ghost use Rattle.std.specs.Prelude.{◌≡◌, ◌≤◌, length, IfOk, IfErr, O
 ghost use Rattle.hex_text.specs.HexText.{IsOfHex, back_over, digits_end, hex_bytes, prefix_len};
 
 use crate::fault::{HexFault, HexRefusal};
+use growth_core::Refused;
 use hex::FromHexError;
 use std::alloc::Global;
 
@@ -67,6 +68,6 @@ pub fn hex_bytes(alloc: Global, text: &[u8]) -> Result<Vec<u8>, HexRefusal>
         }
         Err(FromHexError::OddLength) => Err(odd),
         Err(FromHexError::InvalidStringLength) => Err(odd),
-        Err(FromHexError::OutOfMemory) => Err(HexRefusal::Memory),
+        Err(FromHexError::OutOfMemory) => Err(HexRefusal::Memory(Refused::of_library())),
     }
 }

@@ -6,18 +6,19 @@ ghost use Rattle.serde_json.specs.View.{view};
 ghost use Rattle.token_core.specs.Digits.{bit_digits};
 ghost use Rattle.json_core.specs.Json.{bits_json};
 
+use growth_core::{Refused, push_str, string_from};
 use serde_json::Value;
-use std::alloc::{AllocError, Global};
+use std::alloc::Global;
 use types_core::BitForm;
 
 /// Returns `0b` and the digit of each bit, in order.
-fn bits_text(alloc: Global, form: BitForm, bytes: &[u8], count: u32) -> Result<String, AllocError>
+fn bits_text(alloc: Global, form: BitForm, bytes: &[u8], count: u32) -> Result<String, Refused>
     ensures { IfOk result
         (λ text. string_bytes text ≡ codes "0b" ++ bit_digits form bytes.now count) }
 {
-    let mut text = String::from_str(alloc, "0b")?;
+    let mut text = string_from(alloc, "0b")?;
     'bits: for bit in 0..count {
-        text.push_str(if form.bit(bytes, bit) { "1" } else { "0" })?;
+        push_str(&mut text, if form.bit(bytes, bit) { "1" } else { "0" })?;
     }
     Ok(text)
 }
@@ -28,7 +29,7 @@ pub(crate) fn bits_json(
     form: Option<BitForm>,
     bytes: &[u8],
     count: u32,
-) -> Result<Value, AllocError>
+) -> Result<Value, Refused>
     ensures { IfOk result (λ v. view v ≡ bits_json form count bytes.now) }
 {
     match form {

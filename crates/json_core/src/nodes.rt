@@ -13,31 +13,39 @@ use crate::defined::{bit_form, compact_json, composite_fields, defined_arm, inte
 use crate::fields::fields_json;
 use crate::hexadecimal::bytes_json;
 use crate::integers::{signed_json, unsigned_json, wide_json};
+use growth_core::{Refused, push, push_char, reported};
 use serde_json::{Map, Value};
-use std::alloc::{AllocError, Allocator, Global};
+use std::alloc::{Allocator, Global};
 use types_core::Arm;
 use value_core::{NodeRef, What};
 
 /// Returns a text of one character.
-fn char_json(alloc: Global, x: char) -> Result<Value, AllocError>
+fn char_json(alloc: Global, x: char) -> Result<Value, Refused>
     ensures { IfOk result (λ v. view v ≡ string (encode_utf8 x)) }
 {
     let mut text = String::new(alloc);
-    text.push(x)?;
+    push_char(&mut text, x)?;
     Ok(Value::String(text))
 }
 
+/// Returns a text.
+fn text_json(alloc: Global, text: &str) -> Result<Value, Refused>
+    ensures { IfOk result (λ v. view v ≡ string text.now) }
+{
+    reported(Value::try_from_str(alloc, text))
+}
+
 /// Returns an object of one member.
-fn single(alloc: Global, name: &str, value: Value) -> Result<Value, AllocError>
+fn single(alloc: Global, name: &str, value: Value) -> Result<Value, Refused>
     ensures { IfOk result (λ v. view v ≡ object (member name.now (view value) no_members)) }
 {
     let mut members = Map::new(alloc);
-    serde_json::put(&mut members, alloc, name, value)?;
+    reported(serde_json::put(&mut members, alloc, name, value))?;
     Ok(Value::Object(members))
 }
 
 /// Returns the value of a composite or a tuple, given its parts.
-fn parts_json(alloc: Global, node: &NodeRef<'_, '_>, items: Vec<Value>) -> Result<Value, AllocError>
+fn parts_json(alloc: Global, node: &NodeRef<'_, '_>, items: Vec<Value>) -> Result<Value, Refused>
     ensures { IfOk result
         (λ v. view v ≡ parts_json (shape node.now.types node.now.ty) (items_view items.items)) }
 {
@@ -48,7 +56,7 @@ fn parts_json(alloc: Global, node: &NodeRef<'_, '_>, items: Vec<Value>) -> Resul
 }
 
 /// Returns the value of an arm: an object whose one key is the arm's name.
-fn arm_json(alloc: Global, arm: &Arm, items: Vec<Value>) -> Result<Value, AllocError>
+fn arm_json(alloc: Global, arm: &Arm, items: Vec<Value>) -> Result<Value, Refused>
     ensures { IfOk result
         (λ v. view v ≡ object (member arm.now.name
         (fields_json arm.now.fields (items_view items.items)) no_members)) }
@@ -58,7 +66,7 @@ fn arm_json(alloc: Global, arm: &Arm, items: Vec<Value>) -> Result<Value, AllocE
 }
 
 /// Returns a node as JSON, given its children as JSON, in order.
-fn with_items(alloc: Global, node: &NodeRef<'_, '_>, items: Vec<Value>) -> Result<Value, AllocError>
+fn with_items(alloc: Global, node: &NodeRef<'_, '_>, items: Vec<Value>) -> Result<Value, Refused>
     requires { items_view items.items ≡ items_of (map json_seen (children_of node.now)) }
     ensures { IfOk result (λ v. view v ≡ json_seen node.now) }
 {
@@ -66,7 +74,7 @@ fn with_items(alloc: Global, node: &NodeRef<'_, '_>, items: Vec<Value>) -> Resul
         What::Empty => Ok(Value::Null),
         What::Bool(x) => Ok(Value::Bool(x)),
         What::Char(x) => char_json(alloc, x),
-        What::Text => Value::try_from_str(alloc, node.text().unwrap()),
+        What::Text => text_json(alloc, node.text().unwrap()),
         What::Bytes => bytes_json(alloc, node.bytes().unwrap()),
         What::Unsigned(n) => unsigned_json(alloc, integer_json(node), n),
         What::Signed(n) => signed_json(alloc, integer_json(node), n),
@@ -84,12 +92,12 @@ fn with_items(alloc: Global, node: &NodeRef<'_, '_>, items: Vec<Value>) -> Resul
 }
 
 /// Returns a node and all that is below it as JSON. The calls nest as deep as the value.
-fn node_json(alloc: Global, node: &NodeRef<'_, '_>) -> Result<Value, AllocError>
+fn node_json(alloc: Global, node: &NodeRef<'_, '_>) -> Result<Value, Refused>
     ensures { IfOk result (λ v. view v ≡ json_seen node.now) }
 {
     let mut items = Vec::new(alloc);
     'children: for child in node.children() {
-        items.push(node_json(alloc, &child)?)?;
+        push(&mut items, node_json(alloc, &child)?)?;
     }
     with_items(alloc, node, items)
 }
@@ -102,11 +110,11 @@ fn node_json(alloc: Global, node: &NodeRef<'_, '_>) -> Result<Value, AllocError>
 ///
 /// # Errors
 ///
-/// `AllocError` if an allocation fails.
+/// `Refused` if an allocation fails.
 pub fn to_json<A: Allocator>(
     alloc: Global,
     value: &value_core::Value<'_, A>,
-) -> Result<Value, AllocError>
+) -> Result<Value, Refused>
     ensures { IfOk result (λ json. view json ≡ json_seen value.now) }
 {
     node_json(alloc, &value.root())

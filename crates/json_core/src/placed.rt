@@ -6,7 +6,8 @@ ghost use Rattle.json_core.specs.Json.{json_text};
 ghost use Rattle.json_core.specs.Printed.{IsInFront, run_text};
 
 use crate::printing::json_text;
-use std::alloc::{AllocError, Allocator, Global};
+use growth_core::Refused;
+use std::alloc::{Allocator, Global};
 use token_core::{is_plain, place_hex_text, place_quoted};
 use value_core::Value;
 
@@ -57,13 +58,13 @@ fn run_in_front(out: &mut [u8], bytes: &[u8]) -> usize
 ///
 /// # Errors
 ///
-/// `AllocError` if an allocation fails; `out` is unchanged.
+/// `Refused` if an allocation fails; `out` is unchanged.
 pub fn json_to_slice<A: Allocator, B: Allocator>(
     alloc: Global,
     text_alloc: B,
     value: &Value<'_, A>,
     out: &mut [u8],
-) -> Result<usize, AllocError>
+) -> Result<usize, Refused>
     ensures len { IfOk result (λ len. len ≡ length (json_text value.now)) }
     ensures ok { IfOk result (λ len. IsInFront (json_text value.now) out.old out.new) }
     ensures err { IfErr result (λ e. out.new ≡ out.old) }

@@ -3,12 +3,14 @@
 ghost use Rattle.std.specs.Prelude.{◌≡◌, ◌≤◌, ◌||◌, length, take, string_bytes, IfOk, IfErr, OnOk};
 ghost use Rattle.std.specs.Prelude.{IsErrOf};
 ghost use Rattle.std.specs.Io.KnownBytes.{Appends};
+ghost use Rattle.growth_core.specs.Evidence.{evidence};
 ghost use Rattle.json_core.specs.Json.{json_text};
 ghost use Rattle.json_core.specs.Printed.{MeetsPrint, written_of, is_write};
 
 use crate::writing::write_node;
+use growth_core::Refused;
 use scale_core::{Sink, WriteOnce};
-use std::alloc::{AllocError, Allocator, Global};
+use std::alloc::{Allocator, Global};
 use token_core::Output;
 use value_core::{Value, WriteFault, send};
 
@@ -19,7 +21,7 @@ const FIRST_ROOM: usize = 256;
 #[derive(Clone, Copy, Debug, PartialEq, Eq)]
 pub enum PrintFault {
     /// An allocation failed. Nothing was written.
-    OutOfMemory,
+    OutOfMemory(Refused),
     /// A write failed; the fault reports how many bytes went out before it.
     Write(WriteFault),
 }
@@ -38,7 +40,7 @@ pub enum PrintFault {
 ///
 /// # Errors
 ///
-/// `AllocError` if an allocation fails.
+/// `Refused` if an allocation fails.
 ///
 /// # Examples
 ///
@@ -52,7 +54,7 @@ pub fn json_text<A: Allocator, B: Allocator>(
     alloc: Global,
     text_alloc: B,
     value: &Value<'_, A>,
-) -> Result<String<B>, AllocError>
+) -> Result<String<B>, Refused>
     ensures { IfOk result (λ text. string_bytes text ≡ json_text value.now) }
 {
     let mut out = Output::with_room(text_alloc, FIRST_ROOM)?;
@@ -85,11 +87,12 @@ pub fn print<A: Allocator, W: WriteOnce>(
     // The writer did to the last write what the reason says.
     ensures met { IfErr result (MeetsPrint W.writes sink.new.device) }
     // After a failed allocation nothing was written.
-    ensures memory { IsErrOf result PrintFault.OutOfMemory → sink.new ≡ sink.old }
+    ensures memory { IsErrOf result (PrintFault.OutOfMemory evidence) → sink.new ≡ sink.old }
     ensures failed { sink.new.failed ≡ sink.old.failed || is_write result }
 {
-    let Ok(text) = json_text(alloc, alloc, value) else {
-        return Err(PrintFault::OutOfMemory);
+    let text = match json_text(alloc, alloc, value) {
+        Ok(text) => text,
+        Err(refused) => return Err(PrintFault::OutOfMemory(refused)),
     };
     match send(sink, text.as_bytes()) {
         Ok(()) => Ok(()),

@@ -21,7 +21,8 @@ ghost use Rattle.json_core.specs.declared.integer_json.IntegerJson.TheVariants.{
 use crate::defined::{bit_form, compact_json, composite_fields, defined_arm, integer_json};
 use crate::fields::name_of;
 use crate::integer_json::IntegerJson;
-use std::alloc::{AllocError, Allocator, Global};
+use growth_core::{Refused, push, with_capacity};
+use std::alloc::{Allocator, Global};
 use token_core::{Escapes, Output};
 use types_core::{Arm, BitForm, Field, Fields, Keys};
 use value_core::{NodeRef, What};
@@ -34,7 +35,7 @@ fn write_unsigned<A: Allocator>(
     out: &mut Output<A>,
     shown: IntegerJson,
     n: u128,
-) -> Result<(), AllocError>
+) -> Result<(), Refused>
     requires { shown ≡ Number → n < 2 ^ 64 }
     ensures { AddsValue result out.old out.new (unsigned_by shown n) }
 {
@@ -49,7 +50,7 @@ fn write_signed<A: Allocator>(
     out: &mut Output<A>,
     shown: IntegerJson,
     n: i128,
-) -> Result<(), AllocError>
+) -> Result<(), Refused>
     requires { shown ≡ Number → FitsSigned w64 n }
     ensures { AddsValue result out.old out.new (signed_by shown n) }
 {
@@ -60,14 +61,14 @@ fn write_signed<A: Allocator>(
 }
 
 /// Writes a run of bytes in hexadecimal.
-fn write_bytes<A: Allocator>(out: &mut Output<A>, bytes: &[u8]) -> Result<(), AllocError>
+fn write_bytes<A: Allocator>(out: &mut Output<A>, bytes: &[u8]) -> Result<(), Refused>
     ensures { AddsValue result out.old out.new (bytes_json bytes.now) }
 {
     out.hex(bytes)
 }
 
 /// Writes an integer of 256 bits as a text. Its lowest byte is the first.
-fn write_wide<A: Allocator>(out: &mut Output<A>, bytes: [u8; 32]) -> Result<(), AllocError>
+fn write_wide<A: Allocator>(out: &mut Output<A>, bytes: [u8; 32]) -> Result<(), Refused>
     ensures { AddsValue result out.old out.new (wide_json bytes) }
 {
     let mut highest_first = bytes;
@@ -81,7 +82,7 @@ fn write_bits<A: Allocator>(
     form: Option<BitForm>,
     bytes: &[u8],
     count: u32,
-) -> Result<(), AllocError>
+) -> Result<(), Refused>
     ensures { AddsValue result out.old out.new (bits_json form count bytes.now) }
 {
     match form {
@@ -91,7 +92,7 @@ fn write_bits<A: Allocator>(
 }
 
 /// Writes a text of one character.
-fn write_char<A: Allocator>(out: &mut Output<A>, x: char) -> Result<(), AllocError>
+fn write_char<A: Allocator>(out: &mut Output<A>, x: char) -> Result<(), Refused>
     ensures { AddsTokens result out.old out.new (string (encode_utf8 x) ∷ []) }
 {
     let mut bytes = [0; 4];
@@ -99,7 +100,7 @@ fn write_char<A: Allocator>(out: &mut Output<A>, x: char) -> Result<(), AllocErr
 }
 
 /// Writes the number of elements, if they take no bytes.
-fn write_count<A: Allocator>(out: &mut Output<A>, count: u32) -> Result<(), AllocError>
+fn write_count<A: Allocator>(out: &mut Output<A>, count: u32) -> Result<(), Refused>
     ensures { AddsValue result out.old out.new
         (object (member (codes "count") (number (unsigned count)) no_members)) }
 {
@@ -123,15 +124,15 @@ fn children<'v, 'r>(
     alloc: Global,
     count: usize,
     node: &NodeRef<'v, 'r>,
-) -> Result<Vec<NodeRef<'v, 'r>>, AllocError>
+) -> Result<Vec<NodeRef<'v, 'r>>, Refused>
     ensures { IfOk result (λ v. (v.items ≡ []) ⊎ (v.items ≡ children_of node.now)) }
 {
     if count <= FEW_CHILDREN {
         return Ok(Vec::new(alloc));
     }
-    let mut children = Vec::with_capacity(alloc, count)?;
+    let mut children = with_capacity(alloc, count)?;
     'children: for child in node.children() {
-        children.push(child)?;
+        push(&mut children, child)?;
     }
     Ok(children)
 }
@@ -146,7 +147,7 @@ fn write_child<A: Allocator>(
     listed: &[NodeRef<'_, '_>],
     node: &NodeRef<'_, '_>,
     position: usize,
-) -> Result<(), AllocError>
+) -> Result<(), Refused>
     requires listed { (listed.now ≡ []) ⊎ (listed.now ≡ children_of node.now) }
     requires there { position < length (children_of node.now) }
     ensures { AddsValue result out.old out.new
@@ -165,7 +166,7 @@ fn write_each<A: Allocator>(
     out: &mut Output<A>,
     alloc: Global,
     node: &NodeRef<'_, '_>,
-) -> Result<(), AllocError>
+) -> Result<(), Refused>
     ensures { OnOk result (prints out.new (end_array ∷ []) ≡ prints out.old
         (items_tokens (items_outline (items_of (map json_seen (children_of node.now)))))) }
 {
@@ -181,7 +182,7 @@ fn write_items<A: Allocator>(
     out: &mut Output<A>,
     alloc: Global,
     node: &NodeRef<'_, '_>,
-) -> Result<(), AllocError>
+) -> Result<(), Refused>
     ensures { AddsValue result out.old out.new
         (array (items_of (map json_seen (children_of node.now)))) }
 {
@@ -199,7 +200,7 @@ fn write_in_order<A: Allocator>(
     alloc: Global,
     fields: &[Field],
     node: &NodeRef<'_, '_>,
-) -> Result<(), AllocError>
+) -> Result<(), Refused>
     requires order { key_order fields.now ≡ Some (range_with_len 0 (length fields.now)) }
     requires count { length fields.now ≡ length (children_of node.now) }
     ensures { AddsValue result out.old out.new
@@ -222,7 +223,7 @@ fn write_sorted<A: Allocator>(
     fields: &[Field],
     order: &[u32],
     node: &NodeRef<'_, '_>,
-) -> Result<(), AllocError>
+) -> Result<(), Refused>
     requires order { key_order fields.now ≡ Some order.now }
     requires count { length fields.now ≡ length (children_of node.now) }
     ensures { AddsValue result out.old out.new
@@ -246,7 +247,7 @@ fn write_fields<A: Allocator>(
     alloc: Global,
     fields: &Fields,
     node: &NodeRef<'_, '_>,
-) -> Result<(), AllocError>
+) -> Result<(), Refused>
     requires { length fields.now ≡ length (children_of node.now) }
     ensures { AddsValue result out.old out.new
         (fields_json fields.now (items_of (map json_seen (children_of node.now)))) }
@@ -266,7 +267,7 @@ fn write_arm<A: Allocator>(
     alloc: Global,
     arm: &Arm,
     node: &NodeRef<'_, '_>,
-) -> Result<(), AllocError>
+) -> Result<(), Refused>
     requires { length arm.now.fields ≡ length (children_of node.now) }
     ensures { AddsValue result out.old out.new (object (member arm.now.name
         (fields_json arm.now.fields (items_of (map json_seen (children_of node.now))))
@@ -290,7 +291,7 @@ pub(crate) fn write_node<A: Allocator>(
     out: &mut Output<A>,
     alloc: Global,
     node: &NodeRef<'_, '_>,
-) -> Result<(), AllocError>
+) -> Result<(), Refused>
     ensures { AddsValue result out.old out.new (json_seen node.now) }
 {
     // Inlined into the loops over children, so that a leaf costs no call.

@@ -43,7 +43,7 @@ IsSpelled b own = (x : Head × Option Part) × (own_at (next_layout b) own ≡ O
 abbrev pub AddsNode : Built → Built → List ℕ → Result (Unit {0}) NodeFault → Type 0
 AddsNode old new own (Ok _) = IsAdded old new own
 AddsNode old new own (Err (fault.Refused reported at)) = IsRefused old own reported at × (new ≡ old)
-AddsNode old new own (Err fault.OutOfMemory) = IsSpelled old own × (new ≡ old)
+AddsNode old new own (Err (fault.OutOfMemory _)) = IsSpelled old own × (new ≡ old)
 
 -- the same for bytes that spell the node
 abbrev pub AddsBytes : {E : Type 0} → Built → Built → List ℕ → Result (Unit {0}) E → Type 0

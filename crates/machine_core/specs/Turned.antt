@@ -1,6 +1,7 @@
 -- One piece of input, turn by turn.
 use Rattle.std.specs.Prelude.{◌≡◌, ℕ, suc, ◌+◌, ◌-◌, ◌≤◌, ◌⊎◌, List, [], ◌++◌, length, take}
 use Rattle.std.specs.Prelude.{drop, false, true, Option, Some, None, Result, Ok, Err}
+use Rattle.growth_core.specs.Evidence.{evidence}
 use Rattle.types_core.specs.declared.type_info.TypeInfo.{TypeInfo}
 use Rattle.widths_core.specs.Layouts as layout
 use Rattle.scale_core.specs.Compact.{compact}
@@ -102,7 +103,7 @@ EndsTurns s rest (stop.Refused held reported_reason at len) = let x = held_of s 
     × (held ≡ length (held_of s)) × (at ≡ length x - length left)
     × (remain (types_in s) (state_of s.built) x ≡ reported [] (Err ((e, left), x)))
     × Decided (types_in s) (state_of s.built) x e left len × (held ≤ len)
-EndsTurns s rest stop.OutOfMemory = WantsMemory s rest
+EndsTurns s rest (stop.OutOfMemory _) = WantsMemory s rest
 
 -- more bytes are held, or a node is added and no bytes are held
 abbrev pub Steps : Running → Running → List ℕ → Type 0
@@ -117,14 +118,14 @@ StepReports old new piece (Ok n) = (n ≤ length piece) × IsSame old new
     × Steps old new (take n piece)
 StepReports old new piece (Err (stop.Refused held reported_reason at len)) =
     EndsTurns old piece (stop.Refused held reported_reason at len)
-StepReports old new piece (Err stop.OutOfMemory) = WantsMemory old piece
+StepReports old new piece (Err (stop.OutOfMemory _)) = WantsMemory old piece
 StepReports old new piece (Err s) = (new ≡ old) × EndsTurns old piece s
 
 -- what stands after the turns end: the same as before the last one, unless a node was rejected or
 -- an allocation failed
 abbrev pub StandsAfter : Stopped → Running → Running → Type 0
 StandsAfter (stop.Refused held reported_reason at len) before new = Unit {0}
-StandsAfter stop.OutOfMemory before new = Unit {0}
+StandsAfter (stop.OutOfMemory _) before new = Unit {0}
 StandsAfter s before new = new ≡ before
 
 -- nothing is carried, and no run is open
@@ -136,7 +137,7 @@ IsReady s = (s.carry ≡ []) × (s.built.run ≡ None)
 abbrev pub WholeReports : Running → Running → List ℕ → Tried → Type 0
 WholeReports old new piece (tried.Added n) = StepReports old new piece (Ok n) × IsReady new
 WholeReports old new piece tried.Untouched = new ≡ old
-WholeReports old new piece tried.OutOfMemory = WantsMemory old piece × (new ≡ old)
+WholeReports old new piece (tried.OutOfMemory _) = WantsMemory old piece × (new ≡ old)
 
 -- a variant or a sequence
 abbrev pub HasParts : BytesForm → Type 0
@@ -189,7 +190,7 @@ pub record StopsShort (old new : Running) (piece : List ℕ) (n from to : ℕ) :
 abbrev pub StopCounts : Running → Running → List ℕ → ℕ → ℕ → ℕ → Stopped → Type 0
 StopCounts old new piece from to n (stop.Refused held reported_reason at len) =
     StopsShort old new piece n from to
-StopCounts old new piece from to n stop.OutOfMemory = StopsShort old new piece n from to
+StopCounts old new piece from to n (stop.OutOfMemory _) = StopsShort old new piece n from to
 StopCounts old new piece from to n s = FewTurns old new n from to
 
 -- what a call that feeds a piece does
@@ -251,14 +252,14 @@ abbrev pub node_turned : Result (Unit {0}) NodeFault → ℕ → ℕ → ℕ →
 node_turned (Ok u) held count len = Ok count
 node_turned (Err (fault.Refused reported_reason at)) held count len =
     Err (stop.Refused held reported_reason at len)
-node_turned (Err fault.OutOfMemory) held count len = Err stop.OutOfMemory
+node_turned (Err (fault.OutOfMemory _)) held count len = Err (stop.OutOfMemory evidence)
 
 -- a turn that takes bytes of the piece for an open run
 abbrev pub PieceReports : Running → Running → List ℕ → Turned → Type 0
 PieceReports old new piece (Ok n) = (n ≤ length piece) × IsSame old new
     × (1 ≤ length (take n piece)) × (state_of new.built ≡ state_of old.built)
     × (held_of new ≡ held_of old ++ take n piece)
-PieceReports old new piece (Err stop.OutOfMemory) = WantsMemory old piece
+PieceReports old new piece (Err (stop.OutOfMemory _)) = WantsMemory old piece
 PieceReports old new piece (Err s) = ⊥
 
 -- a turn that ends a run, after it took the run's last `count` bytes, whatever follows them
@@ -266,7 +267,7 @@ abbrev pub EndReports : Running → Running → ℕ → Turned → Type 0
 EndReports old new count (Ok n) = (n ≡ count) × IsSame old new × Steps old new []
 EndReports old new count (Err (stop.Refused held reported_reason at len)) =
     (rest : List ℕ) → EndsTurns old rest (stop.Refused (count + held) reported_reason at len)
-EndReports old new count (Err stop.OutOfMemory) = (rest : List ℕ) → WantsMemory old rest
+EndReports old new count (Err (stop.OutOfMemory _)) = (rest : List ℕ) → WantsMemory old rest
 EndReports old new count (Err s) = ⊥
 
 -- the stop at an unused bit of 1, so many bytes after those that came

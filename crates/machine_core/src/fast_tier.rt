@@ -45,7 +45,7 @@ impl<'r, A: Allocator> Partial<'r, A> {
         match take_node(&mut self.builder, form, &piece[..len]) {
             Ok(()) => Tried::Added(len),
             Err(NodeFault::Refused(..)) => Tried::Untouched,
-            Err(NodeFault::OutOfMemory) => Tried::OutOfMemory,
+            Err(NodeFault::OutOfMemory(refused)) => Tried::OutOfMemory(refused),
         }
     }
 
@@ -60,9 +60,9 @@ impl<'r, A: Allocator> Partial<'r, A> {
             WholeReports self.old self.new (own.now ++ rest) result }
         ensures taken { result ≡ Tried.Untouched → ⊥ }
     {
-        let Ok(()) = self.builder.add_leaf(leaf) else {
-            return Tried::OutOfMemory;
-        };
+        if let Err(refused) = self.builder.add_leaf(leaf) {
+            return Tried::OutOfMemory(refused);
+        }
         Tried::Added(own.len())
     }
 
@@ -91,9 +91,9 @@ impl<'r, A: Allocator> Partial<'r, A> {
         let Some((leaf, count)) = form.leaf_at_front(piece) else {
             return Tried::Untouched;
         };
-        let Ok(()) = self.builder.add_element(leaf) else {
-            return Tried::OutOfMemory;
-        };
+        if let Err(refused) = self.builder.add_element(leaf) {
+            return Tried::OutOfMemory(refused);
+        }
         self.is_on_its_way();
         Tried::Added(count)
     }
@@ -125,7 +125,7 @@ impl<'r, A: Allocator> Partial<'r, A> {
     {
         match add_bare(&mut self.builder, form) {
             Ok(()) => Tried::Added(0),
-            Err(_) => Tried::OutOfMemory,
+            Err(refused) => Tried::OutOfMemory(refused),
         }
     }
 
@@ -145,7 +145,7 @@ impl<'r, A: Allocator> Partial<'r, A> {
                 (0, Tried::Added(count))
             }
             Ok(None) => (0, self.whole_bare(Form::Fields)),
-            Err(_) => (0, Tried::OutOfMemory),
+            Err(refused) => (0, Tried::OutOfMemory(refused)),
         }
     }
 

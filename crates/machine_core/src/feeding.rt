@@ -28,7 +28,7 @@ impl<'r, A: Allocator> Partial<'r, A> {
                     at += count;
                     continue 'turns;
                 }
-                Tried::OutOfMemory => return (at, Stopped::OutOfMemory),
+                Tried::OutOfMemory(refused) => return (at, Stopped::OutOfMemory(refused)),
                 Tried::Untouched => {}
             }
             if self.is_finished() {

@@ -81,7 +81,7 @@ fn node_turn(
             at,
             len,
         }),
-        Err(NodeFault::OutOfMemory) => Err(Stopped::OutOfMemory),
+        Err(NodeFault::OutOfMemory(refused)) => Err(Stopped::OutOfMemory(refused)),
     }
 }
 
@@ -96,7 +96,8 @@ impl<'r, A: Allocator> Partial<'r, A> {
     {
         match self.whole_bare(form) {
             Tried::Added(count) => Ok(count),
-            Tried::Untouched | Tried::OutOfMemory => Err(Stopped::OutOfMemory),
+            Tried::OutOfMemory(refused) => Err(Stopped::OutOfMemory(refused)),
+            Tried::Untouched => unreachable!(),
         }
     }
 
@@ -149,7 +150,7 @@ impl<'r, A: Allocator> Partial<'r, A> {
     {
         match self.whole_byte_array(len, piece) {
             Tried::Added(count) => return Ok(count),
-            Tried::OutOfMemory => return Err(Stopped::OutOfMemory),
+            Tried::OutOfMemory(refused) => return Err(Stopped::OutOfMemory(refused)),
             Tried::Untouched => {}
         }
         if piece.is_empty() {
@@ -211,9 +212,9 @@ impl<'r, A: Allocator> Partial<'r, A> {
             StepReports self.old self.new (rest.now ++ later) result }
         ensures kept { KeepsTurns self.old self.new result }
     {
-        let Ok(()) = self.builder.extend_run(rest) else {
-            return Err(Stopped::OutOfMemory);
-        };
+        if let Err(refused) = self.builder.extend_run(rest) {
+            return Err(Stopped::OutOfMemory(refused));
+        }
         self.run_end(rest.len())
     }
 
@@ -228,9 +229,9 @@ impl<'r, A: Allocator> Partial<'r, A> {
         ensures kept { KeepsTurns self.old self.new result }
     {
         let count = piece.len().min(missing);
-        let Ok(()) = self.builder.extend_run(&piece[..count]) else {
-            return Err(Stopped::OutOfMemory);
-        };
+        if let Err(refused) = self.builder.extend_run(&piece[..count]) {
+            return Err(Stopped::OutOfMemory(refused));
+        }
         Ok(count)
     }
 
@@ -253,9 +254,9 @@ impl<'r, A: Allocator> Partial<'r, A> {
                 len,
             });
         }
-        let Ok(()) = self.builder.close_run() else {
-            return Err(Stopped::OutOfMemory);
-        };
+        if let Err(refused) = self.builder.close_run() {
+            return Err(Stopped::OutOfMemory(refused));
+        }
         Ok(count)
     }
 

@@ -8,8 +8,9 @@ ghost use Rattle.form_core.specs.NodeForms.{form_of_plain};
 
 use crate::reason::DecodeReason;
 use form_core::{PlainForm, read_length, read_plain};
+use growth_core::Refused;
 use scale_core::Fault;
-use std::alloc::{AllocError, Allocator};
+use std::alloc::Allocator;
 use value_core::{Form, Leaf, Next, RawBuilder};
 
 /// Why a node is not added.
@@ -18,7 +19,7 @@ pub(crate) enum NodeFault {
     /// Its bytes are rejected, at this place from the first of them.
     Refused(DecodeReason, u64),
     /// An allocation failed.
-    OutOfMemory,
+    OutOfMemory(Refused),
 }
 
 impl From<Fault> for NodeFault {
@@ -34,14 +35,14 @@ impl From<Fault> for NodeFault {
     }
 }
 
-impl From<AllocError> for NodeFault {
+impl From<Refused> for NodeFault {
     ghost use Rattle.std.specs.Prelude.{◌≡◌};
     ghost use Rattle.machine_core.specs.declared.node.NodeFault.TheVariants.{OutOfMemory};
 
-    ghost from_gives = { λ _ r. r ≡ OutOfMemory };
+    ghost from_gives = { λ refused fault. fault ≡ OutOfMemory refused };
 
-    fn from(_: AllocError) -> NodeFault {
-        NodeFault::OutOfMemory
+    fn from(refused: Refused) -> NodeFault {
+        NodeFault::OutOfMemory(refused)
     }
 }
 
@@ -99,7 +100,7 @@ pub(crate) fn add_sequence<A: Allocator>(
 pub(crate) fn add_bare<A: Allocator>(
     builder: &mut RawBuilder<'_, A>,
     form: Form,
-) -> Result<(), AllocError>
+) -> Result<(), Refused>
     requires bare { IsBare form }
     requires next { next_of builder.old.walk ≡ Next.Wants form }
     requires closed { builder.old.run ≡ None }

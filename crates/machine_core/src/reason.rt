@@ -4,6 +4,7 @@ ghost use Rattle.std.specs.Prelude.{◌≡◌};
 ghost use Rattle.grammar_core.specs.Reading.{basic};
 ghost use Rattle.machine_core.specs.Reasons.{reason_of, stop_refusal};
 
+use growth_core::Refused;
 use scale_core::Reason;
 use std::error::Error;
 use std::fmt;
@@ -38,7 +39,7 @@ pub enum DecodeReason {
     /// The value goes on after the limit of bytes.
     TooLong,
     /// An allocation failed.
-    OutOfMemory,
+    OutOfMemory(Refused),
     /// A bit of a bit sequence's last word is 1 but stands for none.
     UnusedBits,
 }
@@ -63,7 +64,7 @@ impl fmt::Display for DecodeReason {
             DecodeReason::BitSequence => "BitSequence",
             DecodeReason::BadCompact => "BadCompact",
             DecodeReason::TooLong => "TooLong",
-            DecodeReason::OutOfMemory => "OutOfMemory",
+            DecodeReason::OutOfMemory(_) => "OutOfMemory",
             DecodeReason::UnusedBits => "UnusedBits",
         })
     }

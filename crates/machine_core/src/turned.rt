@@ -1,6 +1,7 @@
 //! What came of a turn.
 
 use crate::reason::DecodeReason;
+use growth_core::Refused;
 
 /// Why no turn follows.
 #[derive(Clone, Copy, Debug, PartialEq, Eq)]
@@ -10,7 +11,7 @@ pub enum Stopped {
     /// The next node needs a byte that is not there.
     Wants,
     /// An allocation failed.
-    OutOfMemory,
+    OutOfMemory(Refused),
     /// The next node is rejected.
     Refused {
         /// How many bytes before this turn belong to the node.
@@ -32,5 +33,5 @@ pub(crate) enum Tried {
     /// Nothing changed: the node needs a turn of another kind.
     Untouched,
     /// An allocation failed, and nothing changed.
-    OutOfMemory,
+    OutOfMemory(Refused),
 }

@@ -6,8 +6,8 @@ ghost use Rattle.node_core.specs.Leaves.{leaf_text_bytes, FitsLeaf, IsLeafKept};
 
 use crate::node::Content;
 use crate::pool::{put_long, put_run};
-use growth_core::GrowVec;
-use std::alloc::{AllocError, Allocator};
+use growth_core::{GrowVec, Refused};
+use std::alloc::Allocator;
 
 /// A node without children, before it is added to a value.
 #[derive(Clone, Copy)]
@@ -62,7 +62,7 @@ fn short_signed(number: i128) -> Option<i64>
 /// Appends a signed integer to the pool unless it fits 64 bits, and returns the content of its
 /// node.
 #[inline(always)]
-fn keep_signed<A: Allocator>(number: i128, pool: &mut GrowVec<u8, A>) -> Result<Content, AllocError>
+fn keep_signed<A: Allocator>(number: i128, pool: &mut GrowVec<u8, A>) -> Result<Content, Refused>
     requires { FitsLeaf (Leaf.Signed number) }
     ensures ok { IfOk result (λ content. IsLeafKept (Leaf.Signed number)
         pool.old.list.items pool.new.list.items content) }
@@ -82,7 +82,7 @@ fn keep_bits<A: Allocator>(
     count: u32,
     bytes: &[u8],
     pool: &mut GrowVec<u8, A>,
-) -> Result<Content, AllocError>
+) -> Result<Content, Refused>
     requires { FitsLeaf (Leaf.Bits count bytes) }
     ensures ok { IfOk result (λ content. IsLeafKept (Leaf.Bits count bytes.entry)
         pool.old.list.items pool.new.list.items content) }
@@ -113,7 +113,7 @@ impl<'b> Leaf<'b> {
     ///
     /// If an allocation fails; the pool is unchanged.
     #[inline(always)]
-    pub fn keep<A: Allocator>(self, pool: &mut GrowVec<u8, A>) -> Result<Content, AllocError>
+    pub fn keep<A: Allocator>(self, pool: &mut GrowVec<u8, A>) -> Result<Content, Refused>
         requires { FitsLeaf self }
         ensures ok { IfOk result (λ content.
             IsLeafKept self.entry pool.old.list.items pool.new.list.items content) }

@@ -6,8 +6,8 @@ ghost use Rattle.std.specs.Prelude.{OnErr};
 ghost use Rattle.std.specs.Int.{w128, to_le_bytes};
 ghost use Rattle.node_core.specs.Shown.{long_shown};
 
-use growth_core::GrowVec;
-use std::alloc::{AllocError, Allocator};
+use growth_core::{GrowVec, Refused};
+use std::alloc::Allocator;
 
 /// The bytes reserved for the first long integer of a pool. Four integers fit, so that a value with
 /// a few of them allocates once.
@@ -22,10 +22,7 @@ const HALF: u128 = 1 << 64;
 ///
 /// If an allocation fails; the pool is unchanged.
 #[inline(always)]
-pub(crate) fn put_run<A: Allocator>(
-    pool: &mut GrowVec<u8, A>,
-    bytes: &[u8],
-) -> Result<u32, AllocError>
+pub(crate) fn put_run<A: Allocator>(pool: &mut GrowVec<u8, A>, bytes: &[u8]) -> Result<u32, Refused>
     requires { length bytes.now < 2 ^ 32 }
     ensures len { IfOk result (λ len. len ≡ length bytes.now) }
     ensures ok { IfOk result (λ _. pool.new.list.items ≡ pool.old.list.items ++ bytes.now) }
@@ -33,13 +30,6 @@ pub(crate) fn put_run<A: Allocator>(
 {
     pool.extend_from_slice(bytes, None)?;
     Ok(bytes.len() as u32)
-}
-
-/// Returns how many bytes to reserve for a run at whose end the pool has `whole` bytes: those that
-/// are missing, and at least an eighth of its length.
-#[inline(always)]
-fn missing<A: Allocator>(pool: &GrowVec<u8, A>, whole: usize) -> usize {
-    whole.saturating_sub(pool.len()).max(pool.len() / 8)
 }
 
 /// Returns how many bits words of this many bytes stand for, if so many are unused.
@@ -61,16 +51,17 @@ pub fn put_piece<A: Allocator>(
     pool: &mut GrowVec<u8, A>,
     piece: &[u8],
     whole: usize,
-) -> Result<(), AllocError>
+) -> Result<(), Refused>
     ensures ok { OnOk result (pool.new.list.items ≡ pool.old.list.items ++ piece.now) }
     ensures err { OnErr result (pool.new.list.items ≡ pool.old.list.items) }
 {
+    let missing = whole.saturating_sub(pool.len());
     if let [byte] = *piece {
-        pool.make_room(1, Some(missing(pool, whole)))?;
+        pool.make_room(1, Some(missing))?;
         pool.push_reserved(byte);
         return Ok(());
     }
-    pool.extend_from_slice(piece, Some(missing(pool, whole)))
+    pool.extend_from_slice(piece, Some(missing))
 }
 
 /// Appends the sixteen bytes of an integer in little-endian order, and returns their position.
@@ -82,7 +73,7 @@ pub fn put_piece<A: Allocator>(
 pub(crate) fn put_long<A: Allocator>(
     pool: &mut GrowVec<u8, A>,
     number: u128,
-) -> Result<usize, AllocError>
+) -> Result<usize, Refused>
     ensures place { IfOk result (λ start. start ≡ length pool.old.list.items) }
     ensures ok { IfOk result
         (λ _. pool.new.list.items ≡ pool.old.list.items ++ to_le_bytes w128 number) }

@@ -7,6 +7,7 @@ use Rattle.std.proofs.Common.{append-nil, append_assoc, arith, add-one, subst, i
 use Rattle.std.specs.Prelude.{Result, ◌==◌, if◌then◌else◌}
 use Rattle.std.proofs.lemmas.Bool.{eqb-true}
 use Rattle.std.proofs.lemmas.List.{map-append, length-map}
+use Rattle.growth_core.specs.Evidence.{evidence}
 use Rattle.types_core.specs.declared.definition.Arm.{Arm}
 use Rattle.types_core.specs.declared.definition.Field.{Field}
 use Rattle.types_core.specs.declared.type_info.TypeInfo.{TypeInfo}
@@ -106,7 +107,7 @@ added (Some f) w old new (Err e) h ok = absurd (ok e refl)
 
 -- where it failed, that was the fault, or an allocation failed
 pub failed : (o : Option BuildFault) (w old new : Built) (e : BuildFault) →
-    Adds o w old new (Err e) → (o ≡ Some e) ⊎ (e ≡ fault.OutOfMemory)
+    Adds o w old new (Err e) → (o ≡ Some e) ⊎ (e ≡ fault.OutOfMemory evidence)
 failed None w old new e h = inr h.0
 failed (Some f) w old new e h = inl (ap Some (sym h.0))
 
@@ -118,7 +119,7 @@ opened (Some f) first b h = absurd h
 
 -- a record that is rejected is reported, and so is a failed allocation
 pub stopped : (o : Option BuildFault) (x : Result Seen (ℕ × BuildFault)) (at : ℕ) (e : BuildFault) →
-    o ≡ None → (x ≡ Err (at, e)) ⊎ (e ≡ fault.OutOfMemory) →
+    o ≡ None → (x ≡ Err (at, e)) ⊎ (e ≡ fault.OutOfMemory evidence) →
     ReadsRecords o x (Err (records.Record at e))
 stopped None x at e none h = h
 stopped (Some f) x at e none h = absurd cc
@@ -140,7 +141,7 @@ pub missing : (o : Option BuildFault) (n : ℕ) (b : Built) (e : BuildFault × B
 missing None n b e none h = by (is_complete b) h where
   by : (yes : Bool) → Finishes yes (finished b) b (Err e) →
       (ended_at n yes b ≡ Err (n, e.0))
-      ⊎ (e.0 ≡ fault.OutOfMemory)
+      ⊎ (e.0 ≡ fault.OutOfMemory evidence)
   by true h = absurd h
   by false h = inl (ap (λ (f : BuildFault). Err (n, f)) (sym h.0))
 missing (Some f) n b e none h = absurd cc

@@ -4,6 +4,7 @@ use Rattle.std.specs.Prelude.{false, List, [], ◌∷◌, length, Option, Some, 
 use Rattle.std.specs.Prelude.{if◌then◌else◌, ◌&&◌, ◌||◌}
 use Rattle.std.specs.Str.{is_utf8}
 use Rattle.std.specs.Str.Lossy.{utf8_valid_len}
+use Rattle.growth_core.specs.Evidence.{evidence}
 use Rattle.scale_core.specs.Number.{is_scalar}
 use Rattle.graph_core.specs.Types.{shape}
 use Rattle.grammar_core.specs.Preorder as head
@@ -152,8 +153,8 @@ ended n (Err e) = Err e
 abbrev pub GivesValue : Result Seen (ℕ × BuildFault) → Result Seen RecordFault → Type 0
 GivesValue wanted (Ok v) = wanted ≡ Ok v
 GivesValue wanted (Err (records.Record at reason)) =
-    (wanted ≡ Err (at, reason)) ⊎ (reason ≡ fault.OutOfMemory)
-GivesValue wanted (Err (records.Open reason)) = reason ≡ fault.OutOfMemory
+    (wanted ≡ Err (at, reason)) ⊎ (reason ≡ fault.OutOfMemory evidence)
+GivesValue wanted (Err (records.Open reason)) = reason ≡ fault.OutOfMemory evidence
 
 -- the type and the depth are judged first
 abbrev pub ReadsRecords : Option BuildFault → Result Seen (ℕ × BuildFault) →

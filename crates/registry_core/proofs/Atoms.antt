@@ -6,6 +6,7 @@ use Rattle.std.specs.Prelude.{◌≢◌, ◌⊎◌, flat_map}
 use Rattle.std.specs.List.{AllByRecursion}
 use Rattle.std.proofs.lemmas.Bool.{cases_lt, le-ltb, lt-ltb, ltb-false}
 use Rattle.std.proofs.lemmas.List.{take-append-drop, length-take, take-append-le, drop-append-le}
+use Rattle.growth_core.specs.Evidence.{evidence}
 use Rattle.scale_core.specs.Number.{AreBytes, le_bytes}
 use Rattle.scale_core.specs.Compact.{compact}
 use Rattle.scale_core.specs.Text.{IsText}
@@ -41,7 +42,7 @@ cut scale.Truncated e = refl
 cut _ e = absurd cc
 
 -- no fault of an integer or a text is reported as an allocation failure
-no_memory : (reason : Reason) → registry_reason_of reason ≢ registry.OutOfMemory
+no_memory : (reason : Reason) → registry_reason_of reason ≢ registry.OutOfMemory evidence
 no_memory scale.Truncated e = absurd cc
 no_memory _ e = absurd cc
 
@@ -151,7 +152,8 @@ taken x z is = record {
 
 -- a byte is rejected, neither as a cut nor as an allocation failure
 pub refused : {Z : Type 0} {Fits : Z → Type 0} {spell : Z → List ℕ} (x : ℕ)
-    (reason : RegistryReason) → reason ≢ registry.OutOfMemory → reason ≢ registry.Truncated →
+    (reason : RegistryReason) → reason ≢ registry.OutOfMemory evidence →
+    reason ≢ registry.Truncated →
     IsBehind Fits spell x (λ b. Err (reason, x ∷ b))
 refused x reason no_memory no_cut = record {
   takes = λ b small all. tt;
@@ -195,7 +197,7 @@ byte_is = tagged_is refl (λ x. taken x x (λ small. (small, refl))) (λ x rest 
 
 -- a byte that names something
 pub named_is : {X : Type 0} (reason : RegistryReason) (name : ℕ → Option X) (byte : X → ℕ) →
-    reason ≢ registry.OutOfMemory → reason ≢ registry.Truncated →
+    reason ≢ registry.OutOfMemory evidence → reason ≢ registry.Truncated →
     ((b : ℕ) (x : X) → name b ≡ Some x → b ≡ byte x) → ((x : X) → name (byte x) ≡ Some x) →
     IsPart (λ _. Unit {0}) (λ x. byte x ∷ [])
     (λ bytes. byte_at bytes >>= λ b. named reason bytes (name b.0) b.1)

@@ -13,7 +13,7 @@ use Rattle.registry_core.specs.Reading.{Reader, repeated, id_at, type_info_at, t
 pub stops_then : {X Y : Type 0} (stop : ReadStop) (first : Read RegistryReason X)
     (then : X × List ℕ → Read RegistryReason Y) → StopsReading stop first →
     StopsReading stop (first >>= then)
-stops_then Memory first then h = tt
+stops_then (Memory _) first then h = tt
 stops_then (Fault reason left) first then h = rw h refl
 
 -- what was read before, and what is still read
@@ -45,7 +45,7 @@ pub ends : {X : Type 0} (part : Reader X) (stop : ReadStop) (front : List X) (co
     (bytes : List ℕ) (total : Read RegistryReason (List X)) → i < count →
     StopsReading stop (part bytes)
     → with_front front (repeated (count - i) part bytes) ≡ total → StopsReading stop total
-ends part Memory front count i bytes total lt h so_far = tt
+ends part (Memory _) front count i bytes total lt h so_far = tt
 ends part (Fault reason left) front count i bytes total lt h so_far =
     let k : count - i ≡ suc (count - (i + 1)) = omega arith in
     let one : with_front front (repeated (count - i) part bytes) ≡ Err (reason, left.now) =
@@ -71,7 +71,7 @@ type_goes_on front count i bytes behind x after total lt at h so_far =
 pub id_ends : (stop : ReadStop) (front : List TypeInfo) (count i : ℕ) (bytes : List ℕ)
     (total : Read RegistryReason (List TypeInfo)) → i < count → StopsReading stop (id_at i bytes)
     → with_front front (types_at (count - i) i bytes) ≡ total → StopsReading stop total
-id_ends Memory front count i bytes total lt h so_far = tt
+id_ends (Memory _) front count i bytes total lt h so_far = tt
 id_ends (Fault reason left) front count i bytes total lt h so_far =
     let k : count - i ≡ suc (count - (i + 1)) = omega arith in
     let one : with_front front (types_at (count - i) i bytes) ≡ Err (reason, left.now) =
@@ -83,7 +83,7 @@ pub type_ends : (stop : ReadStop) (front : List TypeInfo) (count i : ℕ) (bytes
     (total : Read RegistryReason (List TypeInfo)) → i < count
     → id_at i bytes ≡ Ok (i, behind) → StopsReading stop (type_info_at behind)
     → with_front front (types_at (count - i) i bytes) ≡ total → StopsReading stop total
-type_ends Memory front count i bytes behind total lt at h so_far = tt
+type_ends (Memory _) front count i bytes behind total lt at h so_far = tt
 type_ends (Fault reason left) front count i bytes behind total lt at h so_far =
     let k : count - i ≡ suc (count - (i + 1)) = omega arith in
     let one : with_front front (types_at (count - i) i bytes) ≡ Err (reason, left.now) =

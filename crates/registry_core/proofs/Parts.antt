@@ -3,6 +3,7 @@ use Rattle.std.proofs.Common.{◌≡◌, ℕ, List, [], ◌++◌, Ok, Err, refl,
 use Rattle.std.proofs.Common.{append_assoc, inl, inr}
 use Rattle.std.specs.Prelude.{◌≢◌, ◌⊎◌}
 use Rattle.std.proofs.lemmas.List.{append-nil}
+use Rattle.growth_core.specs.Evidence.{evidence}
 use Rattle.scale_core.specs.Number.{AreBytes}
 use Rattle.scale_core.specs.Read.{Read, ◌>>=◌}
 use Rattle.scale_core.proofs.Numbers.{rest_bytes}
@@ -16,7 +17,8 @@ use Rattle.registry_core.proofs.Inside.{Inside, at_front, inside_then}
 
 -- a fault of a registry is no allocation failure, and a cut leaves nothing
 abbrev pub IsReported : RegistryReason → List ℕ → Type 0
-IsReported reason left = (reason ≢ registry.OutOfMemory) × (reason ≡ registry.Truncated → left ≡ [])
+IsReported reason left = (reason ≢ registry.OutOfMemory evidence)
+    × (reason ≡ registry.Truncated → left ≡ [])
 
 -- what is read fits, and is spelled so
 abbrev pub Spelled : {X : Type 0} → (X → Type 0) → (X → List ℕ) → X → List ℕ → Type 0

@@ -34,7 +34,7 @@ pub stops_at : {X : Type 0} (b : List ℕ) (fault : ScaleFault) (read : Read Rea
     (left : List ℕ) × (read ≡ Err (fault.reason, left)) × (fault.at ≡ place b left) →
     IsFaultAt (registry_reason_of fault.reason) (drop fault.at b) stop →
     StopsReading stop (lifted read)
-stops_at b fault read Memory h reported is = absurd is
+stops_at b fault read (Memory _) h reported is = absurd is
 stops_at b fault read (Fault reason left) h reported is =
     let same = drop-place b reported.0 (err_after b read fault.reason reported.0 h reported.1) in
     let from : left.now ≡ reported.0 = rw (is.1, reported.2) same in

@@ -64,21 +64,21 @@ module _ {X : Type 0} {Fits : X → Type 0} {spell : X → List ℕ} {at : Reade
 
   -- where the reading stops, it stops within the bytes
   pub err_within : (b : List ℕ) (stop : ReadStop) → StopsReading stop (at b) → IsWithin b stop
-  err_within b Memory h = tt
+  err_within b (Memory _) h = tt
   err_within b (Fault reason left) h =
       let i = part.inside b in after-length b left.now (rw h at i).0
 
   -- where the reading stops, the fault is the reading's, at its place
   pub err_exact : (b : List ℕ) (stop : ReadStop) → StopsReading stop (at b) →
       FaultAnswers b (fault_of (length b) stop) (at b)
-  err_exact b Memory h = inl refl
+  err_exact b (Memory _) h = inl refl
   err_exact b (Fault reason left) h =
       let i = part.inside b in inr (left.now, h, refl, (rw h at i).1.0)
 
   -- a reading that is done stops at an allocation failure only
   stopped : (stop : ReadStop) (b : List ℕ) (x : X × List ℕ) →
       StopsReading stop (done {E = RegistryReason} x) → fault_of (length b) stop ≡ out_of_memory
-  stopped Memory b x h = refl
+  stopped (Memory _) b x h = refl
   stopped (Fault reason left) b x h = absurd cc
 
   -- where bytes begin with a spelling, the reading stops at an allocation failure only

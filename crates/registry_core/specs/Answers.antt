@@ -1,5 +1,6 @@
 -- What the readers of a complete registry return, compared with the reading.
 use Rattle.std.specs.Prelude.{◌≡◌, ◌≢◌, ℕ, ◌≤◌, ◌⊎◌, List, length, drop, Result, Ok, Err}
+use Rattle.growth_core.specs.Evidence.{evidence}
 use Rattle.scale_core.specs.Read.{Read, place}
 use Rattle.registry_core.specs.declared.fault.RegistryFault.{RegistryFault}
 use Rattle.registry_core.specs.declared.fault.RegistryReason.{RegistryReason}
@@ -9,13 +10,13 @@ use Rattle.registry_core.specs.declared.version.Version.{Version}
 
 -- the answer if an allocation failed
 abbrev pub out_of_memory : RegistryFault
-out_of_memory = record { reason = OutOfMemory; at = 0 }
+out_of_memory = record { reason = OutOfMemory evidence; at = 0 }
 
 -- the fault is the first one that reading meets, at its place, unless an allocation failed
 abbrev pub FaultAnswers : {X : Type 0} → List ℕ → RegistryFault → Read RegistryReason X → Type 0
 FaultAnswers input f read = (f ≡ out_of_memory)
     ⊎ ((left : List ℕ) × (read ≡ Err (f.reason, left)) × (f.at ≡ place input left)
-    × (f.reason ≢ OutOfMemory))
+    × (f.reason ≢ OutOfMemory evidence))
 
 -- the registry and how many bytes it took, or the fault
 abbrev pub RegistryAnswers : List ℕ → Result (List TypeInfo × ℕ) RegistryFault →

@@ -9,7 +9,7 @@ use Rattle.registry_core.specs.Answers.{out_of_memory}
 
 -- the fault that the reading gives, unless an allocation failed
 abbrev pub StopsReading : {Y : Type 0} → ReadStop → Read RegistryReason Y → Type 0
-StopsReading Memory read = Unit {0}
+StopsReading (Memory _) read = Unit {0}
 StopsReading (Fault reason left) read = read ≡ Err (reason, left.now)
 
 abbrev pub Gives : {X Y : Type 0} → (X → Y × List ℕ) → Result X ReadStop → Read RegistryReason Y →
@@ -19,15 +19,15 @@ Gives view (Err stop) read = StopsReading stop read
 
 -- this fault, with these bytes from its place on
 abbrev pub IsFaultAt : RegistryReason → List ℕ → ReadStop → Type 0
-IsFaultAt reason left Memory = ⊥
+IsFaultAt reason left (Memory _) = ⊥
 IsFaultAt reason left (Fault why from) = (why ≡ reason) × (from.now ≡ left)
 
 -- a fault leaves no more bytes than there were
 abbrev pub IsWithin : List ℕ → ReadStop → Type 0
-IsWithin bytes Memory = Unit {0}
+IsWithin bytes (Memory _) = Unit {0}
 IsWithin bytes (Fault reason left) = length left.now ≤ length bytes
 
 -- the fault, with its place in an input of this length
 abbrev pub fault_of : ℕ → ReadStop → RegistryFault
-fault_of len Memory = out_of_memory
+fault_of len (Memory _) = out_of_memory
 fault_of len (Fault reason left) = record { reason = reason; at = len - length left.now }

@@ -1,5 +1,6 @@
 -- What is spelled is read, what is read is spelled so, and a fault is the first from the left.
 use Rattle.std.specs.Prelude.{◌≡◌, ◌≢◌, ℕ, List, [], ◌++◌, Ok, Err}
+use Rattle.growth_core.specs.Evidence.{evidence}
 use Rattle.scale_core.specs.Number.{AreBytes}
 use Rattle.registry_core.specs.declared.fault.RegistryReason.{RegistryReason}
 use Rattle.registry_core.specs.declared.fault.RegistryReason.TheVariants.{Truncated, OutOfMemory}
@@ -33,7 +34,7 @@ IsAfter b left = (front : List ℕ) × (b ≡ front ++ left)
 -- a fault lies within the input, or at its end if it is `Truncated`; none is an allocation failure
 abbrev pub FaultIsWithin : {X : Type 0} → Reader X → Type 0
 FaultIsWithin part = (b : List ℕ) (reason : RegistryReason) (left : List ℕ) →
-    part b ≡ Err (reason, left) → IsAfter b left × (reason ≢ OutOfMemory)
+    part b ≡ Err (reason, left) → IsAfter b left × (reason ≢ OutOfMemory evidence)
     × (reason ≡ Truncated → left ≡ [])
 
 -- a fault other than `Truncated` stays the same, at the same place, whatever follows

@@ -16,7 +16,7 @@ registry_reason_name reason.BadPrimitive = codes "BadPrimitive"
 registry_reason_name reason.IdOutOfPlace = codes "IdOutOfPlace"
 registry_reason_name reason.NotMetadata = codes "NotMetadata"
 registry_reason_name reason.WrongVersion = codes "WrongVersion"
-registry_reason_name reason.OutOfMemory = codes "OutOfMemory"
+registry_reason_name (reason.OutOfMemory _) = codes "OutOfMemory"
 
 -- a fault's reason and place
 abbrev pub registry_fault_text : RegistryFault → List ℕ

@@ -1,5 +1,6 @@
 //! Why the bytes of a registry are rejected, and where.
 
+use growth_core::Refused;
 use std::error::Error;
 use std::fmt;
 
@@ -31,7 +32,7 @@ pub enum RegistryReason {
     /// The version of the metadata is neither 14 nor 15.
     WrongVersion,
     /// An allocation failed.
-    OutOfMemory,
+    OutOfMemory(Refused),
 }
 
 impl fmt::Display for RegistryReason {
@@ -52,7 +53,7 @@ impl fmt::Display for RegistryReason {
             RegistryReason::IdOutOfPlace => "IdOutOfPlace",
             RegistryReason::NotMetadata => "NotMetadata",
             RegistryReason::WrongVersion => "WrongVersion",
-            RegistryReason::OutOfMemory => "OutOfMemory",
+            RegistryReason::OutOfMemory(_) => "OutOfMemory",
         })
     }
 }

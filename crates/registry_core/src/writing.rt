@@ -6,8 +6,9 @@ ghost use Rattle.types_core.specs.Fits.{FitsField, FitsArm, FitsDefinition, Fits
 ghost use Rattle.registry_core.specs.Spelling.{sequence, text, texts, option, type_id, param};
 ghost use Rattle.registry_core.specs.Spelling.{field, arm, definition, type_info, spelling};
 
+use growth_core::{Refused, push};
 use scale_core::{write_compact, write_text, write_u32};
-use std::alloc::{AllocError, Global};
+use std::alloc::Global;
 use types_core::{
     Arm, Field, Fields, Items, Name, Param, Registry, Text, TypeDef, TypeId, TypeInfo,
 };
@@ -16,8 +17,8 @@ use types_core::{
 ///
 /// # Errors
 ///
-/// `AllocError` if an allocation fails; `out` may then end with a part of the encoding.
-fn put_text(out: &mut Vec<u8>, value: &Text) -> Result<(), AllocError>
+/// `Refused` if an allocation fails; `out` may then end with a part of the encoding.
+fn put_text(out: &mut Vec<u8>, value: &Text) -> Result<(), Refused>
     requires { FitsText value.now }
     ensures { OnOk result (out.new.items ≡ out.old.items ++ text value.now) }
 {
@@ -29,15 +30,15 @@ fn put_text(out: &mut Vec<u8>, value: &Text) -> Result<(), AllocError>
 /// # Errors
 ///
 /// Those of [`put_text`].
-fn put_optional_text(out: &mut Vec<u8>, value: Option<&Text>) -> Result<(), AllocError>
+fn put_optional_text(out: &mut Vec<u8>, value: Option<&Text>) -> Result<(), Refused>
     requires { FitsOption FitsText (option_map (λ t. t.now) value) }
     ensures { OnOk result
         (out.new.items ≡ out.old.items ++ option text (option_map (λ t. t.now) value.entry)) }
 {
     match value {
-        None => out.push(0)?,
+        None => push(out, 0)?,
         Some(value) => {
-            out.push(1)?;
+            push(out, 1)?;
             put_text(out, value)?;
         }
     }
@@ -49,7 +50,7 @@ fn put_optional_text(out: &mut Vec<u8>, value: Option<&Text>) -> Result<(), Allo
 /// # Errors
 ///
 /// Those of [`put_text`].
-fn put_texts(out: &mut Vec<u8>, values: &Items<Text>) -> Result<(), AllocError>
+fn put_texts(out: &mut Vec<u8>, values: &Items<Text>) -> Result<(), Refused>
     requires { FitsTexts values.now }
     ensures { OnOk result (out.new.items ≡ out.old.items ++ texts values.now) }
 {
@@ -65,7 +66,7 @@ fn put_texts(out: &mut Vec<u8>, values: &Items<Text>) -> Result<(), AllocError>
 /// # Errors
 ///
 /// Those of [`put_text`].
-fn put_type_id(out: &mut Vec<u8>, id: TypeId) -> Result<(), AllocError>
+fn put_type_id(out: &mut Vec<u8>, id: TypeId) -> Result<(), Refused>
     ensures { OnOk result (out.new.items ≡ out.old.items ++ type_id id) }
 {
     write_compact(out, u128::from(id.0))
@@ -76,13 +77,13 @@ fn put_type_id(out: &mut Vec<u8>, id: TypeId) -> Result<(), AllocError>
 /// # Errors
 ///
 /// Those of [`put_text`].
-fn put_optional_type_id(out: &mut Vec<u8>, id: Option<TypeId>) -> Result<(), AllocError>
+fn put_optional_type_id(out: &mut Vec<u8>, id: Option<TypeId>) -> Result<(), Refused>
     ensures { OnOk result (out.new.items ≡ out.old.items ++ option type_id id) }
 {
     match id {
-        None => out.push(0)?,
+        None => push(out, 0)?,
         Some(id) => {
-            out.push(1)?;
+            push(out, 1)?;
             put_type_id(out, id)?;
         }
     }
@@ -94,7 +95,7 @@ fn put_optional_type_id(out: &mut Vec<u8>, id: Option<TypeId>) -> Result<(), All
 /// # Errors
 ///
 /// Those of [`put_text`].
-fn put_type_ids(out: &mut Vec<u8>, ids: &Items<TypeId>) -> Result<(), AllocError>
+fn put_type_ids(out: &mut Vec<u8>, ids: &Items<TypeId>) -> Result<(), Refused>
     ensures { OnOk result (out.new.items ≡ out.old.items ++ sequence type_id ids.now) }
 {
     write_compact(out, ids.len() as u128)?;
@@ -109,7 +110,7 @@ fn put_type_ids(out: &mut Vec<u8>, ids: &Items<TypeId>) -> Result<(), AllocError
 /// # Errors
 ///
 /// Those of [`put_text`].
-fn put_param(out: &mut Vec<u8>, value: &Param) -> Result<(), AllocError>
+fn put_param(out: &mut Vec<u8>, value: &Param) -> Result<(), Refused>
     requires { FitsParam value.now }
     ensures { OnOk result (out.new.items ≡ out.old.items ++ param value.now) }
 {
@@ -122,7 +123,7 @@ fn put_param(out: &mut Vec<u8>, value: &Param) -> Result<(), AllocError>
 /// # Errors
 ///
 /// Those of [`put_text`].
-fn put_params(out: &mut Vec<u8>, values: &Items<Param>) -> Result<(), AllocError>
+fn put_params(out: &mut Vec<u8>, values: &Items<Param>) -> Result<(), Refused>
     requires { FitsList FitsParam values.now }
     ensures { OnOk result (out.new.items ≡ out.old.items ++ sequence param values.now) }
 {
@@ -148,7 +149,7 @@ fn text_of(name: &Option<Name>) -> Option<&Text>
 /// # Errors
 ///
 /// Those of [`put_text`].
-fn put_field(out: &mut Vec<u8>, value: &Field) -> Result<(), AllocError>
+fn put_field(out: &mut Vec<u8>, value: &Field) -> Result<(), Refused>
     requires { FitsField value.now }
     ensures { OnOk result (out.new.items ≡ out.old.items ++ field value.now) }
 {
@@ -163,7 +164,7 @@ fn put_field(out: &mut Vec<u8>, value: &Field) -> Result<(), AllocError>
 /// # Errors
 ///
 /// Those of [`put_text`].
-fn put_fields(out: &mut Vec<u8>, values: &Fields) -> Result<(), AllocError>
+fn put_fields(out: &mut Vec<u8>, values: &Fields) -> Result<(), Refused>
     requires { FitsList FitsField values.now }
     ensures { OnOk result (out.new.items ≡ out.old.items ++ sequence field values.now) }
 {
@@ -179,13 +180,13 @@ fn put_fields(out: &mut Vec<u8>, values: &Fields) -> Result<(), AllocError>
 /// # Errors
 ///
 /// Those of [`put_text`].
-fn put_arm(out: &mut Vec<u8>, value: &Arm) -> Result<(), AllocError>
+fn put_arm(out: &mut Vec<u8>, value: &Arm) -> Result<(), Refused>
     requires { FitsArm value.now }
     ensures { OnOk result (out.new.items ≡ out.old.items ++ arm value.now) }
 {
     put_text(out, value.name.as_text())?;
     put_fields(out, &value.fields)?;
-    out.push(value.index)?;
+    push(out, value.index)?;
     put_texts(out, &value.docs)
 }
 
@@ -194,7 +195,7 @@ fn put_arm(out: &mut Vec<u8>, value: &Arm) -> Result<(), AllocError>
 /// # Errors
 ///
 /// Those of [`put_text`].
-fn put_arms(out: &mut Vec<u8>, values: &Items<Arm>) -> Result<(), AllocError>
+fn put_arms(out: &mut Vec<u8>, values: &Items<Arm>) -> Result<(), Refused>
     requires { FitsList FitsArm values.now }
     ensures { OnOk result (out.new.items ≡ out.old.items ++ sequence arm values.now) }
 {
@@ -210,43 +211,43 @@ fn put_arms(out: &mut Vec<u8>, values: &Items<Arm>) -> Result<(), AllocError>
 /// # Errors
 ///
 /// Those of [`put_text`].
-fn put_definition(out: &mut Vec<u8>, value: &TypeDef) -> Result<(), AllocError>
+fn put_definition(out: &mut Vec<u8>, value: &TypeDef) -> Result<(), Refused>
     requires { FitsDefinition value.now }
     ensures { OnOk result (out.new.items ≡ out.old.items ++ definition value.now) }
 {
     match value {
         TypeDef::Composite(fields) => {
-            out.push(0)?;
+            push(out, 0)?;
             put_fields(out, fields)
         }
         TypeDef::Variant(arms) => {
-            out.push(1)?;
+            push(out, 1)?;
             put_arms(out, arms)
         }
         TypeDef::Sequence(element) => {
-            out.push(2)?;
+            push(out, 2)?;
             put_type_id(out, *element)
         }
         TypeDef::Array(len, element) => {
-            out.push(3)?;
+            push(out, 3)?;
             write_u32(out, *len)?;
             put_type_id(out, *element)
         }
         TypeDef::Tuple(members) => {
-            out.push(4)?;
+            push(out, 4)?;
             put_type_ids(out, members)
         }
         TypeDef::Primitive(primitive) => {
-            out.push(5)?;
-            out.push(primitive.to_byte())?;
+            push(out, 5)?;
+            push(out, primitive.to_byte())?;
             Ok(())
         }
         TypeDef::Compact(target) => {
-            out.push(6)?;
+            push(out, 6)?;
             put_type_id(out, *target)
         }
         TypeDef::BitSequence { store, order, .. } => {
-            out.push(7)?;
+            push(out, 7)?;
             put_type_id(out, *store)?;
             put_type_id(out, *order)
         }
@@ -258,7 +259,7 @@ fn put_definition(out: &mut Vec<u8>, value: &TypeDef) -> Result<(), AllocError>
 /// # Errors
 ///
 /// Those of [`put_text`].
-fn put_type_info(out: &mut Vec<u8>, value: &TypeInfo) -> Result<(), AllocError>
+fn put_type_info(out: &mut Vec<u8>, value: &TypeInfo) -> Result<(), Refused>
     requires { FitsType value.now }
     ensures { OnOk result (out.new.items ≡ out.old.items ++ type_info value.now) }
 {
@@ -273,9 +274,9 @@ fn put_type_info(out: &mut Vec<u8>, value: &TypeInfo) -> Result<(), AllocError>
 ///
 /// # Errors
 ///
-/// `AllocError` if an allocation fails; nothing is kept.
+/// `Refused` if an allocation fails; nothing is kept.
 #[tactic(auto, unfolding(crate::specs::Spelling::spelling))]
-pub fn write_registry(alloc: Global, registry: &Registry) -> Result<Vec<u8>, AllocError>
+pub fn write_registry(alloc: Global, registry: &Registry) -> Result<Vec<u8>, Refused>
     ensures { IfOk result (λ bytes. bytes.items ≡ spelling registry.now) }
 {
     let mut out = Vec::new(alloc);

@@ -5,6 +5,7 @@ use Rattle.std.proofs.Common.{inl, inr, sym, take}
 use Rattle.std.specs.Prelude.{if◌then◌else◌, ◌≢◌}
 use Rattle.std.proofs.lemmas.Bool.{cases_lt, eq-eqb, ne_eqb}
 use Rattle.std.proofs.lemmas.List.{length-append, length-take}
+use Rattle.growth_core.specs.Evidence.{evidence}
 use Rattle.types_core.specs.declared.type_info.TypeInfo.{TypeInfo}
 use Rattle.grammar_core.specs.Tree.{Tree}
 use Rattle.node_core.specs.Shown.{Seen}
@@ -61,14 +62,15 @@ not_all j b v n some h = by_outcome j b (done v) n h
     (whole_where (length b) n v false (ne_eqb n (length b) some))
 
 -- a fault of the bytes, which is no allocation failure
-ended : (j : Query) (b : List ℕ) (f : DecodeFault) (n : ℕ) → f.reason ≢ reason.OutOfMemory →
+ended : (j : Query) (b : List ℕ) (f : DecodeFault) (n : ℕ) →
+    f.reason ≢ reason.OutOfMemory evidence →
     IsEnded j b f n → value_in j b ≡ None
 ended j b f n other (inl is) = absurd (other (ap (λ (x : DecodeFault). x.reason) is.0))
 ended j b f n other (inr (inl h)) = by_outcome j b too_long n h.1
 ended j b f n other (inr (inr h)) = by_outcome j b (refused h.0 h.1) n h.3
 
 -- bytes that a decoder refuses, and not for an allocation failure, spell no value
-pub faulted : (j : Query) (b : List ℕ) (f : DecodeFault) → f.reason ≢ reason.OutOfMemory →
+pub faulted : (j : Query) (b : List ℕ) (f : DecodeFault) → f.reason ≢ reason.OutOfMemory evidence →
     FinishesDecoder j b (Err f) → value_in j b ≡ None
 faulted j b f other (inl h) = by_outcome j b more (length b) h.1
 faulted j b f other (inr h) = ended j b f h.0 other h.1
@@ -77,7 +79,7 @@ faulted j b f other (inr h) = ended j b f h.0 other h.1
 
 -- a fault that is not an allocation failure is reported of the bytes, which spell no value
 reported_fault : (forbidden : Option OpenFault) (j : Query) (b : List ℕ) (f : DecodeFault) →
-    forbidden ≡ None → f.reason ≢ reason.OutOfMemory → FinishesDecoder j b (Err f) →
+    forbidden ≡ None → f.reason ≢ reason.OutOfMemory evidence → FinishesDecoder j b (Err f) →
     (forbidden ≡ None) × (value_in j b ≡ None) × FinishesDecoder j b (Err f)
 reported_fault forbidden j b f none other h = (none, faulted j b f other h, h)
 
@@ -85,7 +87,7 @@ reported_fault forbidden j b f none other h = (none, faulted j b f other h, h)
 by_reason : (r : DecodeReason) (forbidden : Option OpenFault) (j : Query) (b : List ℕ)
     (f : DecodeFault) → r ≡ f.reason → forbidden ≡ None → FinishesDecoder j b (Err f) →
     RefusesValue forbidden j b (value_refusal_by r f)
-by_reason reason.OutOfMemory forbidden j b f is none h = tt
+by_reason (reason.OutOfMemory _) forbidden j b f is none h = tt
 by_reason _ forbidden j b f is none h =
     reported_fault forbidden j b f none (λ e. let bad = is ∙ e in cc) h
 
@@ -96,7 +98,7 @@ by_opening forbidden j b opening.UnknownType (inl is) = is
 by_opening forbidden j b opening.UnknownType (inr is) = let bad = is.0 in absurd cc
 by_opening forbidden j b opening.LimitOutOfRange (inl is) = is
 by_opening forbidden j b opening.LimitOutOfRange (inr is) = let bad = is.0 in absurd cc
-by_opening forbidden j b opening.OutOfMemory h = tt
+by_opening forbidden j b (opening.OutOfMemory _) h = tt
 
 -- what the decoder's fault refuses the bytes for
 pub refused_by : (forbidden : Option OpenFault) (j : Query) (b : List ℕ) (f : DecodeFault) →

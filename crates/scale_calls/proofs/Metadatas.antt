@@ -22,7 +22,8 @@ ends_there bytes end within = omega (arith, within, length-drop end bytes)
 pub by_rest : (bits : Bool) (bytes left : List ℕ) (types : List TypeInfo) (v : Version) (end : ℕ)
     (r : MetadataRefusal) → metadata_at bytes ≡ Ok ((types, v), left) → end ≡ place bytes left →
     RefusesRest v left end r → RefusesMetadata bits bytes r
-by_rest bits bytes left types v end refusal.Memory read ends h = tt
+by_rest bits bytes left types v end (refusal.Memory _) read ends h = tt
+by_rest bits bytes left types v end (refusal.TooLarge _) read ends h = tt
 by_rest bits bytes left types v end (refusal.Registry f) read ends h = absurd h
 by_rest bits bytes left types v end r read ends h =
     (types, v, left, read, inl (subst (λ n. RefusesRest v left n r) ends h))
@@ -33,7 +34,8 @@ pub by_reference : (bits : Bool) (bytes left : List ℕ) (types : List TypeInfo)
     end ≡ place bytes left → rest_in v left ≡ Some rest →
     RefusesReferences (record { version = v; own = types_by bits types; rest = rest }) end r →
     RefusesMetadata bits bytes r
-by_reference bits bytes left types v end rest refusal.Memory read ends is h = tt
+by_reference bits bytes left types v end rest (refusal.Memory _) read ends is h = tt
+by_reference bits bytes left types v end rest (refusal.TooLarge _) read ends is h = tt
 by_reference bits bytes left types v end rest (refusal.Registry f) read ends is h = absurd h
 by_reference bits bytes left types v end rest r read ends is h = (
   types,

@@ -1,6 +1,7 @@
 -- Metadata that is opened with its names.
 use Rattle.std.specs.Prelude.{◌≡◌, ◌+◌, ◌-◌, ◌<◌, ◌^◌, min, ℕ, List, ◌++◌, length, Option, Some}
 use Rattle.std.specs.Prelude.{None, Ok, Err, Bool, true, ◌⊎◌}
+use Rattle.growth_core.specs.Evidence.{evidence}
 use Rattle.scale_core.specs.Read.{place}
 use Rattle.types_core.specs.declared.type_info.TypeInfo.{TypeInfo}
 use Rattle.registry_core.specs.Reading.{metadata_at}
@@ -15,6 +16,8 @@ use Rattle.outcome_core.specs.Outcome.{Query}
 use Rattle.decode_core.specs.Decoding.{FinishesDecoder}
 use Rattle.decode_core.specs.Streaming.{Trails}
 use Rattle.decode_core.specs.declared.fault.DecodeFault.{DecodeFault}
+use Rattle.chain_core.specs.declared.fault.NamesFault.{NamesFault}
+use Rattle.chain_core.specs.declared.fault.NamesFault.TheVariants as names
 use Rattle.chain_core.specs.Listed.{things}
 use Rattle.chain_core.specs.Names.{Entry, entries_of, placed}
 use Rattle.chain_core.specs.RestTypes.{rest_root, rest_types}
@@ -88,7 +91,7 @@ RefusesRest v bytes end (refusal.Rest f) = (rest_in v bytes ≡ None)
     × FinishesDecoder (rest_query v) bytes (Err g))
 RefusesRest v bytes end (refusal.TrailingBytes at) = (rest_in v bytes ≡ None)
     × ((n : ℕ) × (at ≡ shifted end n) × Trails (rest_query v) n bytes)
-RefusesRest v bytes end refusal.Memory = Unit {0}
+RefusesRest v bytes end (refusal.Memory _) = Unit {0}
 RefusesRest v bytes end _ = ⊥
 
 -- why the references of metadata are refused, whose registry ends at the place `end`: the first of
@@ -99,13 +102,15 @@ RefusesReferences m end (refusal.UnknownReference ty at) = (n : ℕ)
 RefusesReferences m end (refusal.Check unknown) = (unknown_in (length m.own) m.rest ≡ None)
     × ((first_fault m.own ≡ Some (unknown.from, unknown.to))
     ⊎ ((first_fault m.own ≡ None) × (first_fault (all_types m) ≡ Some (unknown.from, unknown.to))))
-RefusesReferences m end refusal.Memory = Unit {0}
+RefusesReferences m end (refusal.TooLarge _) = Unit {0}
+RefusesReferences m end (refusal.Memory _) = Unit {0}
 RefusesReferences m end _ = ⊥
 
 -- why metadata is refused: the first fault of its prefix and registry, what follows these, or a
 -- reference
 abbrev pub RefusesMetadata : Bool → List ℕ → MetadataRefusal → Type 0
-RefusesMetadata bits bytes refusal.Memory = Unit {0}
+RefusesMetadata bits bytes (refusal.Memory _) = Unit {0}
+RefusesMetadata bits bytes (refusal.TooLarge _) = Unit {0}
 RefusesMetadata bits bytes (refusal.Registry f) = IsFirstFault true bytes f
 RefusesMetadata bits bytes r = (types : List TypeInfo) × (v : Version) × (left : List ℕ)
     × (metadata_at bytes ≡ Ok ((types, v), left)) × (RefusesRest v left (place bytes left) r
@@ -113,9 +118,14 @@ RefusesMetadata bits bytes r = (types : List TypeInfo) × (v : Version) × (left
     (record { version = v; own = types_by bits types; rest = rest }) (place bytes left) r))
 
 abbrev pub metadata_refusal_by : RegistryReason → RegistryFault → MetadataRefusal
-metadata_refusal_by registry.OutOfMemory f = refusal.Memory
+metadata_refusal_by (registry.OutOfMemory _) f = refusal.Memory evidence
 metadata_refusal_by _ f = refusal.Registry f
 
 -- the refusal of a registry's fault; an allocation failure is no fault of the bytes
 abbrev pub metadata_refusal : RegistryFault → MetadataRefusal
 metadata_refusal f = metadata_refusal_by f.reason f
+
+-- the refusal of metadata whose names are not found
+abbrev pub names_refusal : NamesFault → MetadataRefusal
+names_refusal (names.TooLarge many) = refusal.TooLarge many
+names_refusal (names.OutOfMemory refused) = refusal.Memory refused

@@ -74,12 +74,14 @@ RefusesTypes options bytes (refusal.TrailingBytes at) = (types_of options bytes 
     × (options.metadata ≡ false) × (at < length bytes)
     × ((types : List TypeInfo) × (registry_at bytes ≡ Ok (types, drop at bytes)))
 RefusesTypes options bytes (refusal.Check unknown) = ⊥
-RefusesTypes options bytes refusal.Memory = Unit {0}
+RefusesTypes options bytes (refusal.TooLarge _) = ⊥
+RefusesTypes options bytes (refusal.Memory _) = Unit {0}
 
 -- why types are rejected: the first reference that is no position, unless an allocation failed
 abbrev pub RefusesCheck : List TypeInfo → RegistryRefusal → Type 0
 RefusesCheck types (refusal.Check unknown) = first_fault types ≡ Some (unknown.from, unknown.to)
-RefusesCheck types refusal.Memory = Unit {0}
+RefusesCheck types (refusal.TooLarge _) = Unit {0}
+RefusesCheck types (refusal.Memory _) = Unit {0}
 RefusesCheck types (refusal.Fault f) = ⊥
 RefusesCheck types (refusal.TrailingBytes at) = ⊥
 
@@ -93,4 +95,5 @@ RefusesRegistry options bytes (refusal.TrailingBytes at) = (checked_of options b
 RefusesRegistry options bytes (refusal.Check unknown) = (checked_of options bytes ≡ None)
     × ((types : List TypeInfo) × (types_of options bytes ≡ Some types)
     × (first_fault types ≡ Some (unknown.from, unknown.to)))
-RefusesRegistry options bytes refusal.Memory = Unit {0}
+RefusesRegistry options bytes (refusal.TooLarge _) = Unit {0}
+RefusesRegistry options bytes (refusal.Memory _) = Unit {0}

@@ -16,7 +16,7 @@ use Rattle.scale_calls.specs.declared.refusal.ValueRefusal.TheVariants as value
 
 -- the refusal of a fault with this reason
 abbrev pub registry_refusal_by : RegistryReason → RegistryFault → RegistryRefusal
-registry_refusal_by registry.OutOfMemory f = types.Memory
+registry_refusal_by (registry.OutOfMemory refused) f = types.Memory refused
 registry_refusal_by _ f = types.Fault f
 
 -- the refusal of a registry's fault; an allocation failure is no fault of the bytes
@@ -26,11 +26,12 @@ registry_refusal f = registry_refusal_by f.reason f
 -- the refusal of a check's fault; an allocation failure is no fault of the registry
 abbrev pub check_refusal : CheckFault → RegistryRefusal
 check_refusal (check.UnknownType from to) = types.Check (record { from = from.0; to = to.0 })
-check_refusal check.OutOfMemory = types.Memory
+check_refusal (check.TooLarge many) = types.TooLarge many
+check_refusal (check.OutOfMemory refused) = types.Memory refused
 
 -- the refusal of a fault with this reason
 abbrev pub value_refusal_by : DecodeReason → DecodeFault → ValueRefusal
-value_refusal_by reason.OutOfMemory f = value.Memory
+value_refusal_by (reason.OutOfMemory refused) f = value.Memory refused
 value_refusal_by _ f = value.Fault f
 
 -- the refusal of a value's fault; an allocation failure is no fault of the bytes
@@ -41,7 +42,7 @@ value_refusal f = value_refusal_by f.reason f
 abbrev pub opening_refusal : OpenFault → ValueRefusal
 opening_refusal opening.UnknownType = value.UnknownType
 opening_refusal opening.LimitOutOfRange = value.LimitOutOfRange
-opening_refusal opening.OutOfMemory = value.Memory
+opening_refusal (opening.OutOfMemory refused) = value.Memory refused
 
 -- the refusal is about the bytes, and not about the type or the limits
 abbrev pub IsOfBytes : ValueRefusal → Type 0

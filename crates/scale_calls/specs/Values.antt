@@ -33,7 +33,7 @@ RefusesValue forbidden j b (refusal.Fault f) = (forbidden ≡ None) × (value_in
     × FinishesDecoder j b (Err f)
 RefusesValue forbidden j b (refusal.TrailingBytes at) = (forbidden ≡ None) × (value_in j b ≡ None)
     × Trails j at b
-RefusesValue forbidden j b refusal.Memory = Unit {0}
+RefusesValue forbidden j b (refusal.Memory _) = Unit {0}
 
 -- the value, or why there is none
 abbrev pub ReadsValue : Option OpenFault → Query → List ℕ → Result Seen ValueRefusal → Type 0

@@ -12,8 +12,9 @@ ghost use Rattle.scale_calls.specs.Lines.{joined_segments};
 
 use crate::lines::joined;
 use chain_core::after_front;
+use growth_core::Refused;
 use registry_core::{Arm, Field, Text, TypeDef, TypeId};
-use std::alloc::{AllocError, Global};
+use std::alloc::Global;
 use widths_core::{Checked, Class};
 
 /// Why a registry has no such part of a type.
@@ -165,8 +166,8 @@ pub fn arm_field(
 ///
 /// # Errors
 ///
-/// `AllocError` if an allocation fails, which only a type that is there needs.
-pub fn type_path(alloc: Global, checked: &Checked, id: u32) -> Result<Option<String>, AllocError>
+/// `Refused` if an allocation fails, which only a type that is there needs.
+pub fn type_path(alloc: Global, checked: &Checked, id: u32) -> Result<Option<String>, Refused>
     ensures path { IfOk result
         (λ path. option_map string_bytes path ≡ type_path checked.now.types id) }
     ensures known { IfErr result (λ _. IsSome (type_path checked.now.types id)) }

@@ -7,9 +7,10 @@ ghost use Rattle.serde_json.specs.Written.{compact_text};
 ghost use Rattle.scale_calls.specs.Lines.{class_name, joined_segments, kind_name, line_of_type};
 ghost use Rattle.scale_calls.specs.Lines.{primitive_name, type_line, type_lines, version_line};
 
+use growth_core::{Refused, push_str, reported, string_from};
 use registry_core::{Primitive, Text, TypeDef, TypeId, TypeInfo, Version};
 use serde_json::Value;
-use std::alloc::{AllocError, Global};
+use std::alloc::Global;
 use widths_core::{Checked, Class};
 
 /// Returns the name of a class.
@@ -63,27 +64,27 @@ fn kind_name(shape: &TypeDef) -> &'static str
 }
 
 /// Joins the segments of a path by `::`.
-pub(crate) fn joined(alloc: Global, segments: &[Text]) -> Result<String, AllocError>
+pub(crate) fn joined(alloc: Global, segments: &[Text]) -> Result<String, Refused>
     ensures { IfOk result (λ path. string_bytes path ≡ joined_segments segments.now) }
 {
     let Some((first, others)) = segments.split_first() else {
         return Ok(String::new(alloc));
     };
-    let mut path = String::from_str(alloc, first.as_str())?;
+    let mut path = string_from(alloc, first.as_str())?;
     'segments: for segment in others {
-        path.push_str("::")?;
-        path.push_str(segment.as_str())?;
+        push_str(&mut path, "::")?;
+        push_str(&mut path, segment.as_str())?;
     }
     Ok(path)
 }
 
 /// Returns a path as a JSON string.
-fn path_text(alloc: Global, segments: &[Text]) -> Result<String, AllocError>
+fn path_text(alloc: Global, segments: &[Text]) -> Result<String, Refused>
     ensures { IfOk result (λ text.
         string_bytes text ≡ compact_text (string (joined_segments segments.now))) }
 {
     let path = joined(alloc, segments)?;
-    Value::String(path).to_string(alloc)
+    reported(Value::String(path).to_string(alloc))
 }
 
 /// Appends the line of a type: its position, class, kind and path, separated by one space.
@@ -93,27 +94,23 @@ fn push_line(
     id: u32,
     class: Class,
     info: &TypeInfo,
-) -> Result<(), AllocError>
+) -> Result<(), Refused>
     ensures { OnOk result (string_bytes lines.new
         ≡ string_bytes lines.old ++ line_of_type id class info.now) }
 {
     let class = class_name(class);
     let kind = kind_name(&info.shape);
     let path = path_text(alloc, info.path.as_slice())?;
-    let line = format!(in alloc; "{id} {class} {kind} {path}\n")?;
-    lines.push_str(line.as_str())
+    let line = reported(format!(in alloc; "{id} {class} {kind} {path}\n"))?;
+    push_str(lines, line.as_str())
 }
 
 /// Appends the lines of all types, in order of position, each with a line feed.
 ///
 /// # Errors
 ///
-/// `AllocError` if an allocation fails; the first of the lines may have been appended.
-pub fn push_type_lines(
-    alloc: Global,
-    lines: &mut String,
-    checked: &Checked,
-) -> Result<(), AllocError>
+/// `Refused` if an allocation fails; the first of the lines may have been appended.
+pub fn push_type_lines(alloc: Global, lines: &mut String, checked: &Checked) -> Result<(), Refused>
     ensures { OnOk result (string_bytes lines.new
         ≡ string_bytes lines.old ++ type_lines checked.now.types) }
 {
@@ -130,8 +127,8 @@ pub fn push_type_lines(
 ///
 /// # Errors
 ///
-/// `AllocError` if an allocation fails, which only a type that is there needs.
-pub fn type_line(alloc: Global, checked: &Checked, id: u32) -> Result<Option<String>, AllocError>
+/// `Refused` if an allocation fails, which only a type that is there needs.
+pub fn type_line(alloc: Global, checked: &Checked, id: u32) -> Result<Option<String>, Refused>
     ensures line { IfOk result
         (λ line. option_map string_bytes line ≡ type_line checked.now.types id) }
     ensures known { IfErr result (λ _. IsSome (type_line checked.now.types id)) }
@@ -152,14 +149,14 @@ pub fn type_line(alloc: Global, checked: &Checked, id: u32) -> Result<Option<Str
 ///
 /// # Errors
 ///
-/// `AllocError` if an allocation fails.
-pub fn version_line(alloc: Global, version: Option<Version>) -> Result<String, AllocError>
+/// `Refused` if an allocation fails.
+pub fn version_line(alloc: Global, version: Option<Version>) -> Result<String, Refused>
     ensures { IfOk result (λ line. string_bytes line ≡ version_line version) }
 {
     match version {
         Some(version) => {
             let number = version.number();
-            format!(in alloc; "metadata {number}\n")
+            reported(format!(in alloc; "metadata {number}\n"))
         }
         None => Ok(String::new(alloc)),
     }

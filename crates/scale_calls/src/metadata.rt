@@ -17,11 +17,14 @@ use crate::refusal::{UnknownReference, ValueRefusal};
 use crate::registry::allowed;
 use crate::value::read_value;
 use chain_core::{
-    Names, list_things, rest_root, rest_types, synthetic_types, unknown_in_rest, unknown_in_types,
+    Names, NamesFault, list_things, rest_root, rest_types, synthetic_types, unknown_in_rest,
+    unknown_in_types,
 };
 use decode_core::DecodeFault;
+use graph_core::{TooMany, number};
+use growth_core::{Refused, append};
 use registry_core::{Registry, RegistryFault, RegistryReason, TypeInfo, Version, read_metadata};
-use std::alloc::{AllocError, Global};
+use std::alloc::Global;
 use value_core::{Limits, Value};
 use widths_core::{CheckFault, Checked};
 
@@ -38,17 +41,32 @@ pub enum MetadataRefusal {
     UnknownReference { ty: u32, at: u64 },
     /// A type refers to one that the registry lacks.
     Check(UnknownReference),
+    /// There are more types, references, names, fields or bytes of a name than numbers of 32 bits.
+    TooLarge(TooMany),
     /// An allocation failed.
-    Memory,
+    Memory(Refused),
 }
 
-impl From<AllocError> for MetadataRefusal {
+impl From<Refused> for MetadataRefusal {
     ghost use Rattle.scale_calls.specs.declared.metadata.MetadataRefusal.TheVariants.{Memory};
 
-    ghost from_gives = { λ _ r. r ≡ Memory };
+    ghost from_gives = { λ refused r. r ≡ Memory refused };
 
-    fn from(_error: AllocError) -> MetadataRefusal {
-        MetadataRefusal::Memory
+    fn from(refused: Refused) -> MetadataRefusal {
+        MetadataRefusal::Memory(refused)
+    }
+}
+
+impl From<NamesFault> for MetadataRefusal {
+    ghost use Rattle.scale_calls.specs.Named.{names_refusal};
+
+    ghost from_gives = { λ fault r. r ≡ names_refusal fault };
+
+    fn from(fault: NamesFault) -> MetadataRefusal {
+        match fault {
+            NamesFault::TooLarge(many) => MetadataRefusal::TooLarge(many),
+            NamesFault::OutOfMemory(refused) => MetadataRefusal::Memory(refused),
+        }
     }
 }
 
@@ -77,7 +95,7 @@ fn registry_refusal(fault: RegistryFault) -> MetadataRefusal
     ensures { result ≡ metadata_refusal fault }
 {
     match fault.reason {
-        RegistryReason::OutOfMemory => MetadataRefusal::Memory,
+        RegistryReason::OutOfMemory(refused) => MetadataRefusal::Memory(refused),
         _ => MetadataRefusal::Registry(fault),
     }
 }
@@ -124,21 +142,20 @@ fn read_rest<'r>(
         Err(ValueRefusal::TrailingBytes(at)) => {
             Err(MetadataRefusal::TrailingBytes(shifted(end, at)))
         }
-        Err(ValueRefusal::UnknownType | ValueRefusal::LimitOutOfRange | ValueRefusal::Memory) => {
-            Err(MetadataRefusal::Memory)
-        }
+        Err(ValueRefusal::Memory(refused)) => Err(MetadataRefusal::Memory(refused)),
+        Err(ValueRefusal::UnknownType | ValueRefusal::LimitOutOfRange) => unreachable!(),
     }
 }
 
 /// Appends types to those of a registry.
-fn extended(registry: Registry, more: Vec<TypeInfo>) -> Result<Registry, AllocError>
+fn extended(registry: Registry, more: Vec<TypeInfo>) -> Result<Registry, Refused>
     requires fits { AllByRecursion FitsType more.items }
     requires few { length registry + length more.items < 2 ^ 32 }
     ensures { IfOk result (λ r. r ≡ registry ++ more.items) }
 {
     let mut types = registry.into_types();
     let mut more = more;
-    types.append(&mut more)?;
+    append(&mut types, &mut more)?;
     Ok(Registry::from_types(types))
 }
 
@@ -148,7 +165,7 @@ fn made_types(
     version: Version,
     own: &[TypeInfo],
     rest: &Value<'_, Global>,
-) -> Result<(Vec<TypeInfo>, Names), AllocError>
+) -> Result<(Vec<TypeInfo>, Names), NamesFault>
     ensures types { IfOk result
         (λ made. made.0.items ≡ synthetic own.now (things version own.now rest.now)) }
     ensures names { IfOk result (λ made. entries_of made.1
@@ -159,9 +176,7 @@ fn made_types(
     let root = rest.root();
     let things = list_things(alloc, version, own, &root)?;
     // A registry has at most 2^32 - 1 types.
-    if own.len() + things.len() + 4 > u32::MAX as usize {
-        return Err(AllocError);
-    }
+    let _most = number(own.len() + things.len() + 4)?;
     let made = synthetic_types(alloc, own, things.as_slice())?;
     let names = Names::new(alloc, things, own.len() as u32)?;
     Ok((made, names))
@@ -204,7 +219,8 @@ fn check_references(
                 to: to.0,
             }))
         }
-        Err((CheckFault::OutOfMemory, _)) => Err(MetadataRefusal::Memory),
+        Err((CheckFault::TooLarge(many), _)) => Err(MetadataRefusal::TooLarge(many)),
+        Err((CheckFault::OutOfMemory(refused), _)) => Err(MetadataRefusal::Memory(refused)),
     }
 }
 
@@ -251,7 +267,9 @@ fn open_with(
 /// - `TrailingBytes` at the end of that, if bytes follow it.
 /// - `UnknownReference`: the first reference there to a type that the registry lacks.
 /// - `Check`: the first reference of a type to one that the registry lacks.
-/// - `Memory` if an allocation fails, or if there are 2^32 types and names or more.
+/// - `TooLarge` if there are more types, references, names, fields or bytes of a name than numbers
+///   of 32 bits.
+/// - `Memory` if an allocation fails.
 pub fn open_metadata(
     alloc: Global,
     bits: bool,

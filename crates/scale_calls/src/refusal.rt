@@ -6,8 +6,9 @@ ghost use Rattle.scale_calls.specs.Refused.{registry_refusal, value_refusal};
 ghost use Rattle.scale_calls.specs.declared.refusal.ValueRefusal.TheVariants.{Memory};
 
 use decode_core::{DecodeFault, DecodeReason, OpenFault};
+use graph_core::TooMany;
+use growth_core::Refused;
 use registry_core::{RegistryFault, RegistryReason};
-use std::alloc::AllocError;
 use thiserror::Error;
 use widths_core::CheckFault;
 
@@ -28,8 +29,10 @@ pub enum RegistryRefusal {
     TrailingBytes(u64),
     /// A type refers to one that the registry lacks.
     Check(UnknownReference),
+    /// There are more references, or more types and arms, than numbers of 32 bits.
+    TooLarge(TooMany),
     /// An allocation failed.
-    Memory,
+    Memory(Refused),
 }
 
 impl From<RegistryFault> for RegistryRefusal {
@@ -37,7 +40,7 @@ impl From<RegistryFault> for RegistryRefusal {
 
     fn from(fault: RegistryFault) -> RegistryRefusal {
         match fault.reason {
-            RegistryReason::OutOfMemory => RegistryRefusal::Memory,
+            RegistryReason::OutOfMemory(refused) => RegistryRefusal::Memory(refused),
             _ => RegistryRefusal::Fault(fault),
         }
     }
@@ -52,7 +55,8 @@ impl From<CheckFault> for RegistryRefusal {
                 from: from.0,
                 to: to.0,
             }),
-            CheckFault::OutOfMemory => RegistryRefusal::Memory,
+            CheckFault::TooLarge(many) => RegistryRefusal::TooLarge(many),
+            CheckFault::OutOfMemory(refused) => RegistryRefusal::Memory(refused),
         }
     }
 }
@@ -69,7 +73,7 @@ pub enum ValueRefusal {
     /// Bytes follow the value, which ends at this place.
     TrailingBytes(u64),
     /// An allocation failed.
-    Memory,
+    Memory(Refused),
 }
 
 impl From<OpenFault> for ValueRefusal {
@@ -79,7 +83,7 @@ impl From<OpenFault> for ValueRefusal {
         match fault {
             OpenFault::UnknownType => ValueRefusal::UnknownType,
             OpenFault::LimitOutOfRange => ValueRefusal::LimitOutOfRange,
-            OpenFault::OutOfMemory => ValueRefusal::Memory,
+            OpenFault::OutOfMemory(refused) => ValueRefusal::Memory(refused),
         }
     }
 }
@@ -89,16 +93,16 @@ impl From<DecodeFault> for ValueRefusal {
 
     fn from(fault: DecodeFault) -> ValueRefusal {
         match fault.reason {
-            DecodeReason::OutOfMemory => ValueRefusal::Memory,
+            DecodeReason::OutOfMemory(refused) => ValueRefusal::Memory(refused),
             _ => ValueRefusal::Fault(fault),
         }
     }
 }
 
-impl From<AllocError> for ValueRefusal {
-    ghost from_gives = { λ _ r. r ≡ Memory };
+impl From<Refused> for ValueRefusal {
+    ghost from_gives = { λ refused r. r ≡ Memory refused };
 
-    fn from(_error: AllocError) -> ValueRefusal {
-        ValueRefusal::Memory
+    fn from(refused: Refused) -> ValueRefusal {
+        ValueRefusal::Memory(refused)
     }
 }

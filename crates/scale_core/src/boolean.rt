@@ -7,7 +7,7 @@ ghost use Rattle.scale_core.specs.Read.{bool_at};
 
 use crate::fault::{Fault, Reason};
 use crate::integer::read_u8;
-use std::alloc::AllocError;
+use growth_core::{Refused, push};
 
 /// Reads a boolean from the start of `bytes`, and returns it with its length, 1 (SCALE codec
 /// specification, "Boolean").
@@ -34,11 +34,11 @@ pub fn read_bool(bytes: &[u8]) -> Result<(bool, usize), Fault>
 ///
 /// # Errors
 ///
-/// `AllocError` if the allocation fails; the elements of `out` are unchanged.
-pub fn write_bool(out: &mut Vec<u8>, value: bool) -> Result<(), AllocError>
+/// `Refused` if the allocation fails; the elements of `out` are unchanged.
+pub fn write_bool(out: &mut Vec<u8>, value: bool) -> Result<(), Refused>
     ensures ok { OnOk result (out.new.items ≡ out.old.items ++ bool_byte value ∷ []) }
     ensures err { OnErr result (out.new.items ≡ out.old.items) }
 {
-    out.push(u8::from(value))?;
+    push(out, u8::from(value))?;
     Ok(())
 }

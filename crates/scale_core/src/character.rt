@@ -7,7 +7,7 @@ ghost use Rattle.scale_core.specs.Read.{char_at};
 
 use crate::fault::{Fault, Reason};
 use crate::integer::{read_u32, write_u32};
-use std::alloc::AllocError;
+use growth_core::Refused;
 
 /// Reads a character from the start of `bytes`, and returns it with its length, 4 (Unicode
 /// Standard, D76).
@@ -33,8 +33,8 @@ pub fn read_char(bytes: &[u8]) -> Result<(char, usize), Fault>
 ///
 /// # Errors
 ///
-/// `AllocError` if the allocation fails; the elements of `out` are unchanged.
-pub fn write_char(out: &mut Vec<u8>, value: char) -> Result<(), AllocError>
+/// `Refused` if the allocation fails; the elements of `out` are unchanged.
+pub fn write_char(out: &mut Vec<u8>, value: char) -> Result<(), Refused>
     ensures ok { OnOk result (out.new.items ≡ out.old.items ++ le_bytes 4 value) }
     ensures err { OnErr result (out.new.items ≡ out.old.items) }
 {

@@ -13,7 +13,7 @@ ghost use Rattle.scale_core.specs.Read.{compact_at, integer_at};
 
 use crate::fault::{Fault, Reason};
 use crate::integer::front;
-use std::alloc::AllocError;
+use growth_core::{Refused, extend_from_slice};
 
 /// The type that a compact integer stands for: an unsigned integer of this width, or `Unit`, which
 /// takes no bytes.
@@ -273,12 +273,12 @@ pub fn put_compact(value: u128, out: &mut [u8; 17]) -> usize
 ///
 /// # Errors
 ///
-/// `AllocError` if the allocation fails; the elements of `out` are unchanged.
-pub fn write_compact(out: &mut Vec<u8>, value: u128) -> Result<(), AllocError>
+/// `Refused` if the allocation fails; the elements of `out` are unchanged.
+pub fn write_compact(out: &mut Vec<u8>, value: u128) -> Result<(), Refused>
     ensures ok { OnOk result (out.new.items ≡ out.old.items ++ compact value) }
     ensures err { OnErr result (out.new.items ≡ out.old.items) }
 {
     let mut spelled = [0; 17];
     let len = put_compact(value, &mut spelled);
-    out.extend_from_slice(&spelled[..len])
+    extend_from_slice(out, &spelled[..len])
 }

@@ -7,7 +7,7 @@ ghost use Rattle.scale_core.specs.Number.{le_bytes, signed_bytes};
 ghost use Rattle.scale_core.specs.Read.{bytes_at, number_at, signed_at};
 
 use crate::fault::{Fault, Reason};
-use std::alloc::AllocError;
+use growth_core::{Refused, extend_from_slice};
 
 /// Returns the first `N` bytes.
 ///
@@ -165,68 +165,68 @@ pub fn read_wide(bytes: &[u8]) -> Result<([u8; 32], usize), Fault>
 ///
 /// # Errors
 ///
-/// `AllocError` if the allocation fails; the elements of `out` are unchanged.
-pub fn write_u8(out: &mut Vec<u8>, value: u8) -> Result<(), AllocError>
+/// `Refused` if the allocation fails; the elements of `out` are unchanged.
+pub fn write_u8(out: &mut Vec<u8>, value: u8) -> Result<(), Refused>
     ensures ok { OnOk result (out.new.items ≡ out.old.items ++ le_bytes 1 value) }
     ensures err { OnErr result (out.new.items ≡ out.old.items) }
 {
-    out.extend_from_slice(&u8::to_le_bytes(value))
+    extend_from_slice(out, &u8::to_le_bytes(value))
 }
 
 /// Appends the two bytes of a u16.
 ///
 /// # Errors
 ///
-/// `AllocError` if the allocation fails; the elements of `out` are unchanged.
-pub fn write_u16(out: &mut Vec<u8>, value: u16) -> Result<(), AllocError>
+/// `Refused` if the allocation fails; the elements of `out` are unchanged.
+pub fn write_u16(out: &mut Vec<u8>, value: u16) -> Result<(), Refused>
     ensures ok { OnOk result (out.new.items ≡ out.old.items ++ le_bytes 2 value) }
     ensures err { OnErr result (out.new.items ≡ out.old.items) }
 {
-    out.extend_from_slice(&u16::to_le_bytes(value))
+    extend_from_slice(out, &u16::to_le_bytes(value))
 }
 
 /// Appends the four bytes of a u32.
 ///
 /// # Errors
 ///
-/// `AllocError` if the allocation fails; the elements of `out` are unchanged.
-pub fn write_u32(out: &mut Vec<u8>, value: u32) -> Result<(), AllocError>
+/// `Refused` if the allocation fails; the elements of `out` are unchanged.
+pub fn write_u32(out: &mut Vec<u8>, value: u32) -> Result<(), Refused>
     ensures ok { OnOk result (out.new.items ≡ out.old.items ++ le_bytes 4 value) }
     ensures err { OnErr result (out.new.items ≡ out.old.items) }
 {
-    out.extend_from_slice(&u32::to_le_bytes(value))
+    extend_from_slice(out, &u32::to_le_bytes(value))
 }
 
 /// Appends the eight bytes of a u64.
 ///
 /// # Errors
 ///
-/// `AllocError` if the allocation fails; the elements of `out` are unchanged.
-pub fn write_u64(out: &mut Vec<u8>, value: u64) -> Result<(), AllocError>
+/// `Refused` if the allocation fails; the elements of `out` are unchanged.
+pub fn write_u64(out: &mut Vec<u8>, value: u64) -> Result<(), Refused>
     ensures ok { OnOk result (out.new.items ≡ out.old.items ++ le_bytes 8 value) }
     ensures err { OnErr result (out.new.items ≡ out.old.items) }
 {
-    out.extend_from_slice(&u64::to_le_bytes(value))
+    extend_from_slice(out, &u64::to_le_bytes(value))
 }
 
 /// Appends the sixteen bytes of a u128.
 ///
 /// # Errors
 ///
-/// `AllocError` if the allocation fails; the elements of `out` are unchanged.
-pub fn write_u128(out: &mut Vec<u8>, value: u128) -> Result<(), AllocError>
+/// `Refused` if the allocation fails; the elements of `out` are unchanged.
+pub fn write_u128(out: &mut Vec<u8>, value: u128) -> Result<(), Refused>
     ensures ok { OnOk result (out.new.items ≡ out.old.items ++ le_bytes 16 value) }
     ensures err { OnErr result (out.new.items ≡ out.old.items) }
 {
-    out.extend_from_slice(&u128::to_le_bytes(value))
+    extend_from_slice(out, &u128::to_le_bytes(value))
 }
 
 /// Appends the byte of an i8.
 ///
 /// # Errors
 ///
-/// `AllocError` if the allocation fails; the elements of `out` are unchanged.
-pub fn write_i8(out: &mut Vec<u8>, value: i8) -> Result<(), AllocError>
+/// `Refused` if the allocation fails; the elements of `out` are unchanged.
+pub fn write_i8(out: &mut Vec<u8>, value: i8) -> Result<(), Refused>
     ensures ok { OnOk result (out.new.items ≡ out.old.items ++ signed_bytes 1 value) }
     ensures err { OnErr result (out.new.items ≡ out.old.items) }
 {
@@ -237,8 +237,8 @@ pub fn write_i8(out: &mut Vec<u8>, value: i8) -> Result<(), AllocError>
 ///
 /// # Errors
 ///
-/// `AllocError` if the allocation fails; the elements of `out` are unchanged.
-pub fn write_i16(out: &mut Vec<u8>, value: i16) -> Result<(), AllocError>
+/// `Refused` if the allocation fails; the elements of `out` are unchanged.
+pub fn write_i16(out: &mut Vec<u8>, value: i16) -> Result<(), Refused>
     ensures ok { OnOk result (out.new.items ≡ out.old.items ++ signed_bytes 2 value) }
     ensures err { OnErr result (out.new.items ≡ out.old.items) }
 {
@@ -249,8 +249,8 @@ pub fn write_i16(out: &mut Vec<u8>, value: i16) -> Result<(), AllocError>
 ///
 /// # Errors
 ///
-/// `AllocError` if the allocation fails; the elements of `out` are unchanged.
-pub fn write_i32(out: &mut Vec<u8>, value: i32) -> Result<(), AllocError>
+/// `Refused` if the allocation fails; the elements of `out` are unchanged.
+pub fn write_i32(out: &mut Vec<u8>, value: i32) -> Result<(), Refused>
     ensures ok { OnOk result (out.new.items ≡ out.old.items ++ signed_bytes 4 value) }
     ensures err { OnErr result (out.new.items ≡ out.old.items) }
 {
@@ -261,8 +261,8 @@ pub fn write_i32(out: &mut Vec<u8>, value: i32) -> Result<(), AllocError>
 ///
 /// # Errors
 ///
-/// `AllocError` if the allocation fails; the elements of `out` are unchanged.
-pub fn write_i64(out: &mut Vec<u8>, value: i64) -> Result<(), AllocError>
+/// `Refused` if the allocation fails; the elements of `out` are unchanged.
+pub fn write_i64(out: &mut Vec<u8>, value: i64) -> Result<(), Refused>
     ensures ok { OnOk result (out.new.items ≡ out.old.items ++ signed_bytes 8 value) }
     ensures err { OnErr result (out.new.items ≡ out.old.items) }
 {
@@ -273,8 +273,8 @@ pub fn write_i64(out: &mut Vec<u8>, value: i64) -> Result<(), AllocError>
 ///
 /// # Errors
 ///
-/// `AllocError` if the allocation fails; the elements of `out` are unchanged.
-pub fn write_i128(out: &mut Vec<u8>, value: i128) -> Result<(), AllocError>
+/// `Refused` if the allocation fails; the elements of `out` are unchanged.
+pub fn write_i128(out: &mut Vec<u8>, value: i128) -> Result<(), Refused>
     ensures ok { OnOk result (out.new.items ≡ out.old.items ++ signed_bytes 16 value) }
     ensures err { OnErr result (out.new.items ≡ out.old.items) }
 {
@@ -285,10 +285,10 @@ pub fn write_i128(out: &mut Vec<u8>, value: i128) -> Result<(), AllocError>
 ///
 /// # Errors
 ///
-/// `AllocError` if the allocation fails; the elements of `out` are unchanged.
-pub fn write_wide(out: &mut Vec<u8>, value: &[u8; 32]) -> Result<(), AllocError>
+/// `Refused` if the allocation fails; the elements of `out` are unchanged.
+pub fn write_wide(out: &mut Vec<u8>, value: &[u8; 32]) -> Result<(), Refused>
     ensures ok { OnOk result (out.new.items ≡ out.old.items ++ value.now) }
     ensures err { OnErr result (out.new.items ≡ out.old.items) }
 {
-    out.extend_from_slice(value)
+    extend_from_slice(out, value)
 }

@@ -8,8 +8,7 @@ ghost use Rattle.scale_core.specs.Read.{text_at};
 
 use crate::compact::{Target, put_compact, read_compact};
 use crate::fault::{Fault, Reason};
-use growth_core::make_room;
-use std::alloc::AllocError;
+use growth_core::{Refused, extend_from_slice, make_room};
 
 /// Reads a text from the start of `bytes`, and returns it, borrowed from them, with the length of
 /// its encoding in bytes.
@@ -53,8 +52,8 @@ pub fn read_text(bytes: &[u8]) -> Result<(&str, usize), Fault>
 ///
 /// # Errors
 ///
-/// `AllocError` if the allocation fails; the elements of `out` are unchanged.
-pub fn write_text(out: &mut Vec<u8>, text: &str) -> Result<(), AllocError>
+/// `Refused` if the allocation fails; the elements of `out` are unchanged.
+pub fn write_text(out: &mut Vec<u8>, text: &str) -> Result<(), Refused>
     requires { length text.now < 2 ^ 32 }
     ensures ok { OnOk result (out.new.items
         ≡ out.old.items ++ compact (length text.now) ++ text.now) }
@@ -64,6 +63,6 @@ pub fn write_text(out: &mut Vec<u8>, text: &str) -> Result<(), AllocError>
     let len = put_compact(text.len() as u128, &mut spelled);
     let there = out.len();
     make_room(out, len + text.len(), Some(there))?;
-    out.extend_from_slice(&spelled[..len])?;
-    out.extend_from_slice(text.as_bytes())
+    extend_from_slice(out, &spelled[..len])?;
+    extend_from_slice(out, text.as_bytes())
 }

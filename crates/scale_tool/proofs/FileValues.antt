@@ -3,6 +3,7 @@ use Rattle.std.proofs.Common.{◌≡◌, ℕ, List, length, drop, Bool, true, fa
 use Rattle.std.proofs.Common.{Option, Some, None, Result, Ok, Err}
 use Rattle.std.proofs.Common.{refl, sym, ap, ◌∙◌, arith, subst}
 use Rattle.std.specs.Prelude.{IfSome, ⊤, ◌||◌}
+use Rattle.growth_core.specs.Evidence.{evidence}
 use Rattle.node_core.specs.Shown.{Seen}
 use Rattle.outcome_core.specs.Outcome.{Query}
 use Rattle.decode_core.specs.Streaming.{Streams}
@@ -97,7 +98,7 @@ abbrev read_refusal : StreamFault → ValueRefusal
 read_refusal (stream.Open f) = opening_refusal f
 read_refusal (stream.Decode f) = value_refusal f
 read_refusal (stream.TrailingBytes at) = call.TrailingBytes at
-read_refusal stream.Device = call.Memory
+read_refusal stream.Device = call.Memory evidence
 
 -- so they are rejected
 stream_refuses : (fails : List ℕ → Type 0) (left : Option (List ℕ)) (j : Query)

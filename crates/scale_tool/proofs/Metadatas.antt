@@ -67,7 +67,8 @@ references_none : (m : Metadata) (end : ℕ) (r : MetadataRefusal) → RefusesRe
 references_none m end (metadata.UnknownReference ty at) h one = unless_some _ _ (ty, h.0) h.1
 references_none m end (metadata.Check unknown) h one =
     unless_none _ _ h.0 ∙ types_none m (unknown.from, unknown.to) h.1
-references_none m end metadata.Memory h one = absurd cc
+references_none m end (metadata.TooLarge _) h one = absurd cc
+references_none m end (metadata.Memory _) h one = absurd cc
 references_none m end _ h one = absurd h
 
 -- what follows the registry is rejected, so it has no value
@@ -75,7 +76,8 @@ rest_none : (v : Version) (left : List ℕ) (end : ℕ) (r : MetadataRefusal) �
     RefusesRest v left end r → IsRejected (refusal_of_metadata r) → rest_in v left ≡ None
 rest_none v left end (metadata.Rest f) h one = h.0
 rest_none v left end (metadata.TrailingBytes at) h one = h.0
-rest_none v left end metadata.Memory h one = absurd cc
+rest_none v left end (metadata.TooLarge _) h one = absurd cc
+rest_none v left end (metadata.Memory _) h one = absurd cc
 rest_none v left end _ h one = absurd h
 
 -- bytes whose registry is read
@@ -108,6 +110,7 @@ fault_none bits b f (inr h) one = ap (metadata_from bits) h.1
 -- bytes that are rejected with status 1 are no metadata
 pub metadata_none : (bits : Bool) (b : List ℕ) (r : MetadataRefusal) → RefusesMetadata bits b r →
     IsRejected (refusal_of_metadata r) → metadata_of bits b ≡ None
-metadata_none bits b metadata.Memory h one = absurd cc
+metadata_none bits b (metadata.TooLarge _) h one = absurd cc
+metadata_none bits b (metadata.Memory _) h one = absurd cc
 metadata_none bits b (metadata.Registry f) h one = fault_none bits b f h one
 metadata_none bits b r h one = after_none bits b h.2 h.0 h.1 r h.3 h.4 one

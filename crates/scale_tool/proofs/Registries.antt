@@ -12,4 +12,5 @@ pub holds_none : (options : OpenOptions) (b : List â„•) (e : RegistryRefusal) â†
 holds_none options b (refusal.Fault f) h one = h.0
 holds_none options b (refusal.TrailingBytes at) h one = h.0
 holds_none options b (refusal.Check unknown) h one = h.0
-holds_none options b refusal.Memory h one = absurd cc
+holds_none options b (refusal.TooLarge _) h one = absurd cc
+holds_none options b (refusal.Memory _) h one = absurd cc

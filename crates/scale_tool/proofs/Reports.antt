@@ -2,6 +2,8 @@
 use Rattle.std.proofs.Common.{◌≡◌, ◌++◌, ◌∙◌, ap, ℕ, List, [], Option, Some, None, subst}
 use Rattle.std.proofs.Common.{inl, inr, refl}
 use Rattle.std.specs.Prelude.{Bool, IfSome, false, ◌⊎◌}
+use Rattle.growth_core.specs.Evidence.{evidence}
+use Rattle.growth_core.specs.declared.refused.Refused.{Refused}
 use Rattle.scale_calls.specs.declared.registry.OpenOptions.{OpenOptions}
 use Rattle.scale_calls.specs.Opened.{RefusesRegistry}
 use Rattle.scale_calls.specs.declared.metadata.MetadataRefusal.TheVariants as metadata
@@ -34,7 +36,8 @@ faults_more options L M V W r (refusal.TrailingValue at) l v h = v (refusal.Trai
 faults_more options L M V W r refusal.RegistryDevice l v h = tt
 faults_more options L M V W r refusal.ValueDevice l v h = tt
 faults_more options L M V W r refusal.OutputDevice l v h = h
-faults_more options L M V W r refusal.Memory l v h = tt
+faults_more options L M V W r (refusal.TooLarge _) l v h = tt
+faults_more options L M V W r (refusal.Memory _) l v h = tt
 faults_more options L M V W r (refusal.Rest f) l v h = elim h [ ]
 faults_more options L M V W r (refusal.UnknownReference ty at) l v h = elim h [ ]
 faults_more options L M V W r refusal.UnknownName l v h = elim h [ ]
@@ -47,7 +50,8 @@ pub registry_faults : (known : Option (List ℕ)) (options : OpenOptions) (e : R
 registry_faults known options (types.Fault f) h = h
 registry_faults known options (types.TrailingBytes at) h = h
 registry_faults known options (types.Check unknown) h = h
-registry_faults known options types.Memory h = tt
+registry_faults known options (types.TooLarge _) h = tt
+registry_faults known options (types.Memory _) h = tt
 
 -- bytes that are refused are those of the file that they were gathered from
 pub gathered_refused : (known : Option (List ℕ)) (options : OpenOptions) (old new text : List ℕ)
@@ -60,13 +64,13 @@ gathered_refused (Some b) options old new text e none all same h =
 
 -- where a refusal is answered and reported, or an allocation failure for its line, one is
 pub reports_refused : (name : List ℕ) (Holds : Refusal → Type 0) (Sent : List ℕ → Type 0)
-    (e : Refusal) (status : ℕ) → Holds e → Holds refusal.Memory →
+    (e : Refusal) (status : ℕ) → Holds e → Holds (refusal.Memory evidence) →
     ((status ≡ status_of e) × Sent (refusal_line name e))
-    ⊎ (IsRejected e × (status ≡ 4) × Sent (refusal_line name refusal.Memory)) →
+    ⊎ (IsRejected e × (status ≡ 4) × Sent (refusal_line name (refusal.Memory evidence))) →
     Reports name Holds Sent status
 reports_refused name Holds Sent e status h memory (inl own) = (e, own.0, h, own.1)
 reports_refused name Holds Sent e status h memory (inr none) =
-    (refusal.Memory, none.1, memory, none.2)
+    (refusal.Memory evidence, none.1, memory, none.2)
 
 -- what a refusal says of the files, where it is not that of the output
 says : (Says : Refusal → Type 0) (e : Refusal) → (e ≡ refusal.OutputDevice → ⊥) →
@@ -85,18 +89,19 @@ stands registry value out Says refusal.OutputDevice r v o h = o refl
 stands registry value out Says e r v o h = says Says e (λ is. cc) h
 
 -- a failed allocation says nothing of metadata's bytes
-metadata_memory : (bits : Bool) (r : Option (List ℕ)) → FaultsMetadata bits r refusal.Memory
-metadata_memory bits None = inr (metadata.Memory, refl, tt)
-metadata_memory bits (Some b) = inr (metadata.Memory, refl, tt)
+pub metadata_memory : (refused : Refused) (bits : Bool) (r : Option (List ℕ)) →
+    FaultsMetadata bits r (refusal.Memory refused)
+metadata_memory refused bits None = inr (metadata.Memory refused, refl, tt)
+metadata_memory refused bits (Some b) = inr (metadata.Memory refused, refl, tt)
 
 -- a failed allocation says nothing of the files
 wanted_memory : (w : Wanted) (d : DecodeJob) (r v : Option (List ℕ)) →
-    FaultsWanted w d r v refusal.Memory
+    FaultsWanted w d r v (refusal.Memory evidence)
 wanted_memory (wanted.Id id) d r v = tt
-wanted_memory (wanted.Name name) d r v = inl (metadata_memory d.bits r)
+wanted_memory (wanted.Name name) d r v = inl (metadata_memory evidence d.bits r)
 
 -- a failed allocation says nothing of the files of any job
-pub faults_memory : (j : Job) (r v : Option (List ℕ)) → Faults j r v refusal.Memory
+pub faults_memory : (j : Job) (r v : Option (List ℕ)) → Faults j r v (refusal.Memory evidence)
 faults_memory (job.Types metadata) r v = tt
-faults_memory job.Names r v = metadata_memory false r
+faults_memory job.Names r v = metadata_memory evidence false r
 faults_memory (job.Decode d) r v = wanted_memory d.wanted d r v

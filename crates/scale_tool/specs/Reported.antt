@@ -76,7 +76,8 @@ refusal_line name (refusal.TrailingValue at) =
 refusal_line name refusal.RegistryDevice = device_line device.Registry
 refusal_line name refusal.ValueDevice = device_line device.Value
 refusal_line name refusal.OutputDevice = device_line device.Output
-refusal_line name refusal.Memory = codes "scaleview: memory\n"
+refusal_line name (refusal.TooLarge _) = codes "scaleview: registry: TooLarge\n"
+refusal_line name (refusal.Memory _) = codes "scaleview: memory\n"
 
 -- ---- what a refusal says
 
@@ -112,7 +113,8 @@ FaultsBy options Lacks Value r (refusal.TrailingValue at) = Value (refusal.Trail
 FaultsBy options Lacks Value r refusal.RegistryDevice = Unit {0}
 FaultsBy options Lacks Value r refusal.ValueDevice = Unit {0}
 FaultsBy options Lacks Value r refusal.OutputDevice = ⊥
-FaultsBy options Lacks Value r refusal.Memory = Unit {0}
+FaultsBy options Lacks Value r (refusal.TooLarge _) = Unit {0}
+FaultsBy options Lacks Value r (refusal.Memory _) = Unit {0}
 FaultsBy options Lacks Value r (refusal.Rest f) = ⊥
 FaultsBy options Lacks Value r (refusal.UnknownReference ty at) = ⊥
 FaultsBy options Lacks Value r refusal.UnknownName = ⊥

@@ -92,7 +92,7 @@ IsBadHex hex fault file = (hex ≡ true) × (hex_bytes file ≡ Err fault)
 abbrev pub ReportsUnread : Bool → Option (List ℕ) → Refusal → Type 0
 ReportsUnread hex known (refusal.Hex fault) = IfSome known (IsBadHex hex fault)
 ReportsUnread hex known refusal.ValueDevice = Unit {0}
-ReportsUnread hex known refusal.Memory = Unit {0}
+ReportsUnread hex known (refusal.Memory _) = Unit {0}
 ReportsUnread hex known _ = ⊥
 
 -- what a refusal says about a value's file if its bytes are known, unless the device or an
@@ -104,7 +104,7 @@ ReportsFile form j known (refusal.Value fault) =
 ReportsFile form j known (refusal.TrailingValue at) =
     IfSome known (ReportsSpelled form j (value.TrailingBytes at))
 ReportsFile form j known refusal.ValueDevice = Unit {0}
-ReportsFile form j known refusal.Memory = Unit {0}
+ReportsFile form j known (refusal.Memory _) = Unit {0}
 ReportsFile form j known _ = ⊥
 
 -- a read of a value's file failed, and the bytes before it left the answer open; they always do

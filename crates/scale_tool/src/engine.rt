@@ -15,6 +15,7 @@ ghost use Rattle.scale_tool.specs.Refused.{IsDevice, IsRejected, status_of};
 ghost use Rattle.scale_tool.specs.Reported.{Faults, FaultsLine, FaultsRegistry, Reports, Stands};
 ghost use Rattle.scale_tool.specs.Reported.{job_name, refusal_line};
 ghost use Rattle.scale_tool.specs.Values.{AreInRange};
+ghost use Rattle.growth_core.specs.Evidence.{evidence};
 
 use crate::lines::refusal_line;
 use crate::named::{named_text, names_text};
@@ -206,7 +207,8 @@ fn refuse<E: WriteOnce>(alloc: Global, name: &str, refusal: Refusal, err: &mut S
     ensures { ((result ≡ status_of refusal)
         × Sends E.writes E.contents err.old err.new (refusal_line name.now refusal))
         ⊎ (IsRejected refusal × (result ≡ 4)
-        × Sends E.writes E.contents err.old err.new (refusal_line name.now Refusal.Memory)) }
+        × Sends E.writes E.contents err.old err.new
+        (refusal_line name.now (Refusal.Memory evidence))) }
 {
     if let Some(line) = refusal.fixed_line(name) {
         let _ = send(err, line.as_bytes());
@@ -217,9 +219,9 @@ fn refuse<E: WriteOnce>(alloc: Global, name: &str, refusal: Refusal, err: &mut S
             let _ = send(err, line.as_bytes());
             refusal.status()
         }
-        Err(_) => {
+        Err(refused) => {
             let _ = send(err, b"scaleview: memory\n");
-            Refusal::Memory.status()
+            Refusal::Memory(refused).status()
         }
     }
 }

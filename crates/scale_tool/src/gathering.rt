@@ -7,6 +7,7 @@ ghost use Rattle.decode_core.specs.Streaming.{FailsAt};
 ghost use Rattle.scale_tool.specs.Devices.{FailsReading};
 ghost use Rattle.scale_tool.specs.Moved.{LeavesReader};
 
+use growth_core::{Refused, extend_from_slice};
 use scale_core::{ReadOnce, Source};
 use std::alloc::Global;
 
@@ -19,7 +20,7 @@ pub(crate) enum GatherFault {
     /// A read failed.
     Device,
     /// An allocation failed.
-    Memory,
+    Memory(Refused),
 }
 
 /// Reads once, appends the bytes, and returns how many there were; 0 is the end.
@@ -42,9 +43,9 @@ fn pull_onto<R: ReadOnce>(
     ensures quiet { IsErrOf result GatherFault.Device ⊎ (source.new.failed ≡ source.old.failed) }
 {
     match source.pull(part) {
-        Ok(count) => match out.extend_from_slice(&part[..count]) {
+        Ok(count) => match extend_from_slice(out, &part[..count]) {
             Ok(()) => Ok(count),
-            Err(_) => Err(GatherFault::Memory),
+            Err(refused) => Err(GatherFault::Memory(refused)),
         },
         Err(_) => Err(GatherFault::Device),
     }

@@ -23,10 +23,11 @@ use crate::refusal::Refusal;
 use crate::text::{Text, held_text, value_text};
 use chain_core::{NamedType, Names};
 use command_line::{DecodeJob, ValueSource};
+use growth_core::Refused;
 use registry_core::TypeId;
 use scale_calls::{MetadataRefusal, NamedMetadata, open_metadata, push_name_lines};
 use scale_core::{ReadOnce, Source};
-use std::alloc::{AllocError, Global};
+use std::alloc::Global;
 use widths_core::Checked;
 
 /// Opens metadata with its names.
@@ -60,12 +61,12 @@ fn read_names<R: ReadOnce>(
     match gather_all(registry, &mut bytes) {
         Ok(()) => Ok(opened(alloc, bits, bytes.as_slice())?),
         Err(GatherFault::Device) => Err(Refusal::RegistryDevice),
-        Err(GatherFault::Memory) => Err(Refusal::Memory),
+        Err(GatherFault::Memory(refused)) => Err(Refusal::Memory(refused)),
     }
 }
 
 /// Returns the lines of names.
-fn lines_of(alloc: Global, names: &Names) -> Result<String, AllocError>
+fn lines_of(alloc: Global, names: &Names) -> Result<String, Refused>
     ensures { IfOk result (λ text. AreLines (entries_of names.now) (string_bytes text)) }
 {
     let mut lines = String::new(alloc);

@@ -25,7 +25,8 @@ fn placed_after(start: u64, refusal: ValueRefusal) -> ValueRefusal
             at: start + at,
         }),
         ValueRefusal::TrailingBytes(at) => ValueRefusal::TrailingBytes(start + at),
-        ValueRefusal::UnknownType | ValueRefusal::LimitOutOfRange | ValueRefusal::Memory => refusal,
+        ValueRefusal::UnknownType | ValueRefusal::LimitOutOfRange | ValueRefusal::Memory(_) =>
+            refusal,
     }
 }
 

@@ -9,10 +9,11 @@ ghost use Rattle.scale_tool.specs.declared.refusal.Refusal.TheVariants.{Memory};
 
 use command_line::Device;
 use decode_core::DecodeFault;
+use graph_core::TooMany;
+use growth_core::Refused;
 use hex_text::{HexFault, HexRefusal};
 use registry_core::{RegistryFault, RegistryReason};
 use scale_calls::{MetadataRefusal, RegistryRefusal, UnknownReference};
-use std::alloc::AllocError;
 
 /// Why there is no answer.
 #[derive(Clone, Copy)]
@@ -45,24 +46,27 @@ pub(crate) enum Refusal {
     ValueDevice,
     /// A write of the answer failed.
     OutputDevice,
+    /// There are more types, references or names than numbers of 32 bits.
+    TooLarge(TooMany),
     /// An allocation failed.
-    Memory,
+    Memory(Refused),
 }
 
 impl Refusal {
-    /// Returns the exit status: 1 for the input, 3 for a device, 4 for a failed allocation.
+    /// Returns the exit status: 1 for the input, 3 for a device, 4 for what is too large or for
+    /// a failed allocation.
     pub(crate) fn status(self) -> u8
         ensures { result ≡ status_of self }
     {
         match self {
             Refusal::RegistryDevice | Refusal::ValueDevice | Refusal::OutputDevice => 3,
-            Refusal::Memory => 4,
+            Refusal::TooLarge(_) | Refusal::Memory(_) => 4,
             _ => 1,
         }
     }
 
-    /// Returns the line of a device or of a failed allocation, which needs no memory. It is the
-    /// same for every name.
+    /// Returns the line of a device, of what is too large or of a failed allocation, which needs no
+    /// memory. It is the same for every name.
     pub(crate) fn fixed_line(self, name: &str) -> Option<&'static str>
         ensures line { IfSome result (λ line. line.now ≡ refusal_line name.now self) }
         ensures none { IfNone result (IsRejected self) }
@@ -71,7 +75,8 @@ impl Refusal {
             Refusal::RegistryDevice => Some(Device::Registry.line()),
             Refusal::ValueDevice => Some(Device::Value.line()),
             Refusal::OutputDevice => Some(Device::Output.line()),
-            Refusal::Memory => Some("scaleview: memory\n"),
+            Refusal::TooLarge(_) => Some("scaleview: registry: TooLarge\n"),
+            Refusal::Memory(_) => Some("scaleview: memory\n"),
             _ => None,
         }
     }
@@ -85,7 +90,8 @@ impl From<RegistryRefusal> for Refusal {
             RegistryRefusal::Fault(fault) => Refusal::Registry(fault),
             RegistryRefusal::TrailingBytes(at) => Refusal::TrailingRegistry(at),
             RegistryRefusal::Check(unknown) => Refusal::Check(unknown),
-            RegistryRefusal::Memory => Refusal::Memory,
+            RegistryRefusal::TooLarge(many) => Refusal::TooLarge(many),
+            RegistryRefusal::Memory(refused) => Refusal::Memory(refused),
         }
     }
 }
@@ -97,7 +103,7 @@ fn of_fault(fault: RegistryFault) -> Refusal
 {
     // `open_metadata` returns `Memory` for it, but its contract does not say so.
     match fault.reason {
-        RegistryReason::OutOfMemory => Refusal::Memory,
+        RegistryReason::OutOfMemory(refused) => Refusal::Memory(refused),
         _ => Refusal::Registry(fault),
     }
 }
@@ -112,7 +118,8 @@ impl From<MetadataRefusal> for Refusal {
             MetadataRefusal::TrailingBytes(at) => Refusal::TrailingRegistry(at),
             MetadataRefusal::UnknownReference { ty, at } => Refusal::UnknownReference { ty, at },
             MetadataRefusal::Check(unknown) => Refusal::Check(unknown),
-            MetadataRefusal::Memory => Refusal::Memory,
+            MetadataRefusal::TooLarge(many) => Refusal::TooLarge(many),
+            MetadataRefusal::Memory(refused) => Refusal::Memory(refused),
         }
     }
 }
@@ -123,15 +130,15 @@ impl From<HexRefusal> for Refusal {
     fn from(refusal: HexRefusal) -> Refusal {
         match refusal {
             HexRefusal::Fault(fault) => Refusal::Hex(fault),
-            HexRefusal::Memory => Refusal::Memory,
+            HexRefusal::Memory(refused) => Refusal::Memory(refused),
         }
     }
 }
 
-impl From<AllocError> for Refusal {
-    ghost from_gives = { λ _ r. r ≡ Memory };
+impl From<Refused> for Refusal {
+    ghost from_gives = { λ refused r. r ≡ Memory refused };
 
-    fn from(_error: AllocError) -> Refusal {
-        Refusal::Memory
+    fn from(refused: Refused) -> Refusal {
+        Refusal::Memory(refused)
     }
 }

@@ -54,7 +54,7 @@ pub(crate) fn read_types<R: ReadOnce>(
     match gather_all(source, &mut bytes) {
         Ok(()) => Ok(checked_registry(alloc, options, bytes.as_slice())?),
         Err(GatherFault::Device) => Err(Refusal::RegistryDevice),
-        Err(GatherFault::Memory) => Err(Refusal::Memory),
+        Err(GatherFault::Memory(refused)) => Err(Refusal::Memory(refused)),
     }
 }
 

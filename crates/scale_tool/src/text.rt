@@ -12,9 +12,10 @@ use crate::form::ValueJob;
 use crate::refusal::Refusal;
 use crate::value::{of_value, read_value_file, spelled_value};
 use budget_core::Budget;
+use growth_core::{Refused, clone_of, push_str};
 use json_core::json_text;
 use scale_core::{ReadOnce, Source};
-use std::alloc::{AllocError, Allocator, Global};
+use std::alloc::{Allocator, Global};
 use value_core::Value;
 use widths_core::Checked;
 
@@ -42,11 +43,11 @@ fn line_text<A: Allocator>(
     alloc: Global,
     memory: A,
     value: &Value<'_, A>,
-) -> Result<String<A>, AllocError>
+) -> Result<String<A>, Refused>
     ensures { IfOk result (λ text. string_bytes text ≡ line_of value.now) }
 {
     let mut text = json_text(alloc, memory, value)?;
-    text.push_str("\n")?;
+    push_str(&mut text, "\n")?;
     Ok(text)
 }
 
@@ -72,7 +73,7 @@ fn line_by<A: Allocator + Clone, V: ReadOnce>(
         (V.remaining value.old.device) (V.remaining value.new.device) }
     ensures quiet { IsErrOf result Refusal.ValueDevice ⊎ (value.new.failed ≡ value.old.failed) }
 {
-    let text_memory = memory.clone()?;
+    let text_memory = clone_of(&memory)?;
     let value = read_value_file(alloc, memory, checked, job, value)?;
     Ok(line_text(alloc, text_memory, &value)?)
 }
@@ -126,7 +127,7 @@ fn held_line<A: Allocator + Clone>(
     ensures faults { IfErr result (FaultsTyped job checked.now.types (Some bytes.now)) }
     ensures device { IfErr result (λ e. IsDevice e → ⊥) }
 {
-    let text_memory = memory.clone()?;
+    let text_memory = clone_of(&memory)?;
     match spelled_value(memory, checked, job, bytes) {
         Ok(value) => Ok(line_text(alloc, text_memory, &value)?),
         Err(refusal) => Err(of_value(refusal)),

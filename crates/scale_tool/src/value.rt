@@ -11,6 +11,7 @@ ghost use Rattle.scale_tool.specs.Refused.{refusal_of_value};
 ghost use Rattle.scale_tool.specs.Values.{AreInRange, ReadsBytes, ReadsFile, ReportsFile};
 ghost use Rattle.scale_tool.specs.Values.{ReportsUnread, StopsFile, file_bytes, file_value};
 ghost use Rattle.scale_tool.specs.Values.{is_gathered};
+ghost use Rattle.growth_core.specs.Evidence.{evidence};
 
 use crate::form::ValueJob;
 use crate::gathering::{GatherFault, gather_all};
@@ -33,14 +34,15 @@ pub(crate) fn of_value(refusal: ValueRefusal) -> Refusal
     match refusal {
         ValueRefusal::Fault(fault) => Refusal::Value(fault),
         ValueRefusal::TrailingBytes(at) => Refusal::TrailingValue(at),
-        ValueRefusal::Memory => Refusal::Memory,
+        ValueRefusal::Memory(refused) => Refusal::Memory(refused),
         ValueRefusal::UnknownType | ValueRefusal::LimitOutOfRange => unreachable!(),
     }
 }
 
 /// Returns the refusal of such a value that is read in pieces.
 fn of_stream(fault: StreamFault) -> Refusal
-    requires { (why : AnOpenFault) → fault ≡ StreamFault.Open why → why ≡ OpenFault.OutOfMemory }
+    requires { (why : AnOpenFault) → fault ≡ StreamFault.Open why →
+        why ≡ OpenFault.OutOfMemory evidence }
     ensures { result ≡ refusal_of_stream fault }
 {
     match fault {
@@ -100,7 +102,7 @@ fn file_bytes<V: ReadOnce>(
         Ok(()) if hex => Ok(hex_bytes(alloc, bytes.as_slice())?),
         Ok(()) => Ok(bytes),
         Err(GatherFault::Device) => Err(Refusal::ValueDevice),
-        Err(GatherFault::Memory) => Err(Refusal::Memory),
+        Err(GatherFault::Memory(refused)) => Err(Refusal::Memory(refused)),
     }
 }
 

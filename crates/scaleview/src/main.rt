@@ -2,9 +2,10 @@
 //! engine's status.
 #![tactic(auto)]
 
+use growth_core::{Refused, push, with_capacity};
 use scale_core::{Sink, Source};
 use scale_tool::{Device, JobFault, explain, job, run, unopened};
-use std::alloc::{AllocError, Global};
+use std::alloc::Global;
 use std::io::{self, Write};
 use std::process::ExitCode;
 use std::rt::{Env, Files};
@@ -20,10 +21,10 @@ fn command_words<R: Env + AllocGlobal>(rt: &R) -> io::Result<Vec<String>> {
 }
 
 /// Borrows the words.
-fn lent_words(alloc: Global, words: &[String]) -> Result<Vec<&str>, AllocError> {
-    let mut lent = Vec::with_capacity(alloc, words.len())?;
+fn lent_words(alloc: Global, words: &[String]) -> Result<Vec<&str>, Refused> {
+    let mut lent = with_capacity(alloc, words.len())?;
     for word in words {
-        lent.push(word.as_str())?;
+        push(&mut lent, word.as_str())?;
     }
     Ok(lent)
 }
@@ -65,13 +66,13 @@ fn run_process<R: Env + Files + AllocGlobal, W: Write, E: Write>(
     let words = match command_words(rt) {
         Ok(words) => words,
         Err(error) if error.kind() == io::ErrorKind::OutOfMemory => {
-            return explain(JobFault::Memory, out, err);
+            return explain(JobFault::Memory(Refused::of_library()), out, err);
         }
         Err(_) => return explain(JobFault::Usage, out, err),
     };
     match lent_words(alloc, words.as_slice()) {
         Ok(words) => run_words(rt, words.as_slice(), out, err),
-        Err(_) => explain(JobFault::Memory, out, err),
+        Err(refused) => explain(JobFault::Memory(refused), out, err),
     }
 }
 

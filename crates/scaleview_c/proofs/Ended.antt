@@ -12,5 +12,5 @@ use Rattle.scaleview_c.specs.declared.session.Stage.TheVariants as stage
 -- a decoder that finishes with a fault ends its session as refused, whatever the reason
 pub ended_by : (r : DecodeReason) (j : Query) (b : List ℕ) (f : DecodeFault) →
     FinishesDecoder j b (Err f) → EndsAs j b (stage.Refused (value_refusal_by r f))
-ended_by reason.OutOfMemory j b f h = tt
+ended_by (reason.OutOfMemory _) j b f h = tt
 ended_by _ j b f h = h

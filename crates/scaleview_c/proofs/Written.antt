@@ -1,5 +1,6 @@
 -- The JSON of a value that was read, and allocation failures on the way to it.
 use Rattle.std.proofs.Common.{ℕ, List, Ok, Err, ap, option_map, inl, inr}
+use Rattle.growth_core.specs.Evidence.{evidence}
 use Rattle.limits_core.specs.declared.limits.Limits.{Limits}
 use Rattle.node_core.specs.Shown.{Seen}
 use Rattle.json_core.specs.Json.{json_text}
@@ -15,7 +16,7 @@ use Rattle.scaleview_c.specs.declared.opened.Opened.{Opened}
 -- an allocation failure is one of the reasons why no JSON is written
 pub no_memory : (o : Opened) (id : ℕ) (limits : Limits) (b old new : List ℕ) (a : Answer) →
     Leaves old new (plain 3) a → WritesJson o id limits b old new a
-no_memory o id limits b old new a left = (Err value.Memory, tt, left)
+no_memory o id limits b old new a left = (Err (value.Memory evidence), tt, left)
 
 -- the JSON of the value that the bytes spell is written, unless an allocation failed
 pub value_written : (o : Opened) (id : ℕ) (limits : Limits) (b old new : List ℕ) (v : Seen)

@@ -263,7 +263,7 @@ ReportsCount count None new a = IsNone None new a
 abbrev pub EndsAs : Query → List ℕ → Stage → Type 0
 EndsAs j b (stage.Complete v) = FinishesDecoder j b (Ok v)
 EndsAs j b (stage.Refused (value.Fault f)) = FinishesDecoder j b (Err f)
-EndsAs j b (stage.Refused value.Memory) = Unit {0}
+EndsAs j b (stage.Refused (value.Memory _)) = Unit {0}
 EndsAs j b (stage.Refused _) = ⊥
 EndsAs j b (stage.Decoding d) = ⊥
 

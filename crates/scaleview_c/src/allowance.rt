@@ -5,9 +5,10 @@ ghost use Rattle.json_core.specs.Json.{json_text};
 ghost use Rattle.scaleview_c.specs.Calls.{WritesUnlessMemory, call_bytes};
 
 use budget_core::Budget;
-use c_answers::{Answer, MEMORY};
+use c_answers::Answer;
+use growth_core::{Refused, clone_of};
 use json_core::json_to_slice;
-use std::alloc::{AllocError, Global};
+use std::alloc::Global;
 use value_core::Value;
 
 /// How many bytes the library may hold at once for a value and its text, where 0 stands for no
@@ -34,8 +35,8 @@ impl Allowance {
     ///
     /// # Errors
     ///
-    /// `AllocError` if the allocation of its count fails.
-    pub fn budget(self, alloc: Global) -> Result<CallBudget, AllocError>
+    /// `Refused` if the allocation of its count fails.
+    pub fn budget(self, alloc: Global) -> Result<CallBudget, Refused>
         ensures { IfOk result (λ budget. call_bytes budget ≡ self.bytes) }
     {
         Ok(CallBudget {
@@ -52,12 +53,13 @@ impl CallBudget {
         ensures { WritesUnlessMemory (json_text value.now) out.old out.new result }
     {
         let room = out.len();
-        let Ok(text_alloc) = self.alloc.clone() else {
-            return Answer::plain(MEMORY);
+        let text_alloc = match clone_of(&self.alloc) {
+            Ok(alloc) => alloc,
+            Err(refused) => return Answer::of_refused(refused),
         };
         match json_to_slice(self.heap, text_alloc, value, out) {
             Ok(len) => Answer::of_text(len, room),
-            Err(_) => Answer::plain(MEMORY),
+            Err(refused) => Answer::of_refused(refused),
         }
     }
 }

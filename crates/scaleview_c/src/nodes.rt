@@ -13,12 +13,13 @@ use crate::resource::Resource;
 use crate::session::Stage;
 use crate::text::put;
 use budget_core::Budget;
-use c_answers::{Answer, MEMORY, MORE, NO_HANDLE, NO_ROOM, OK};
+use c_answers::{Answer, MORE, NO_HANDLE, NO_ROOM, OK};
+use growth_core::{Refused, clone_of};
 use record_core::{Record, RecordFault, value_of_records, write_records};
 use registry_core::TypeId;
 use scale_calls::{ValueRefusal, read_value};
 use scale_core::Sink;
-use std::alloc::{AllocError, Global};
+use std::alloc::Global;
 use std::mem;
 use value_core::{BuildFault, Limits, Value, encode};
 
@@ -60,8 +61,9 @@ fn write_nodes(
     ensures { WritesValueNodes opened.now id limits bytes.now nodes.old nodes.new pool.old
         pool.new result }
 {
-    let Ok(alloc) = budget.alloc.clone() else {
-        return Answer::of_value(ValueRefusal::Memory);
+    let alloc = match clone_of(&budget.alloc) {
+        Ok(alloc) => alloc,
+        Err(refused) => return Answer::of_refused(refused),
     };
     match read_value(alloc, &opened.checked, id, limits, bytes) {
         Ok(value) => put_nodes(&value, nodes, pool),
@@ -99,7 +101,7 @@ pub extern "C" fn scaleview_decode_nodes(
     *answer = match registry.get() {
         Some(Resource::Registry(opened)) => match memory.budget(alloc) {
             Ok(budget) => write_nodes(&budget, opened, id, limits, bytes, nodes, pool),
-            Err(_) => Answer::of_value(ValueRefusal::Memory),
+            Err(refused) => Answer::of_refused(refused),
         },
         Some(Resource::Session(_)) | None => Answer::plain(NO_HANDLE),
     };
@@ -154,7 +156,7 @@ fn opening_fault(opened: &Opened, id: u32, depth: u16) -> Option<BuildFault>
 
 /// Writes the bytes that spell the value whose nodes these records are, both in the budget.
 fn write_encoded(
-    budget: Result<CallBudget, AllocError>,
+    budget: Result<CallBudget, Refused>,
     opened: &Opened,
     id: u32,
     depth: u16,
@@ -168,18 +170,21 @@ fn write_encoded(
     if let Some(fault) = opening_fault(opened, id, depth) {
         return Answer::of_records(RecordFault::Open(fault));
     }
-    let Ok(budget) = budget else {
-        return Answer::plain(MEMORY);
+    let budget = match budget {
+        Ok(budget) => budget,
+        Err(refused) => return Answer::of_refused(refused),
     };
-    let Ok(value_alloc) = budget.alloc.clone() else {
-        return Answer::plain(MEMORY);
+    let value_alloc = match clone_of(&budget.alloc) {
+        Ok(alloc) => alloc,
+        Err(refused) => return Answer::of_refused(refused),
     };
     match value_of_records(value_alloc, &opened.checked, TypeId(id), depth, nodes, pool) {
         Ok(value) => {
             let mut sink = Sink::new(Vec::new(budget.alloc));
             match encode(&value, &mut sink) {
                 Ok(()) => put(out, sink.into_inner().as_slice()),
-                Err(_) => Answer::plain(MEMORY),
+                // A vector refuses only for want of an allocation.
+                Err(_) => Answer::of_refused(Refused::of_library()),
             }
         }
         Err(fault) => Answer::of_records(fault),

@@ -13,7 +13,8 @@ use crate::lent::Lent;
 use crate::opened::Opened;
 use crate::resource::Resource;
 use crate::text::put;
-use c_answers::{Answer, MEMORY, NO_HANDLE, OK, TAKEN, UNKNOWN_TYPE};
+use c_answers::{Answer, NO_HANDLE, OK, TAKEN, UNKNOWN_TYPE};
+use growth_core::{clone_of, reported};
 use scale_calls::{
     MetadataRefusal, NamedMetadata, OpenOptions, OpenedRegistry, RegistryRefusal, open_metadata,
     open_registry, read_value, type_line,
@@ -62,9 +63,9 @@ fn open_types(
         names: None,
         sessions: Cell::new(0),
     };
-    match Box::new(alloc, Resource::Registry(opened)) {
+    match reported(Box::new(alloc, Resource::Registry(opened))) {
         Ok(held) => Ok((held, answer)),
-        Err(_) => Err(Answer::of_registry(RegistryRefusal::Memory)),
+        Err(refused) => Err(Answer::of_registry(RegistryRefusal::Memory(refused))),
     }
 }
 
@@ -88,9 +89,9 @@ fn open_names(alloc: Global, bits: bool, bytes: &[u8]) -> Result<(Box<Resource>,
         names: Some(names),
         sessions: Cell::new(0),
     };
-    match Box::new(alloc, Resource::Registry(opened)) {
+    match reported(Box::new(alloc, Resource::Registry(opened))) {
         Ok(held) => Ok((held, answer)),
-        Err(_) => Err(Answer::of_metadata(MetadataRefusal::Memory)),
+        Err(refused) => Err(Answer::of_metadata(MetadataRefusal::Memory(refused))),
     }
 }
 
@@ -211,7 +212,7 @@ pub extern "C" fn scaleview_type_line(
         Some(Resource::Registry(opened)) => match type_line(alloc, &opened.checked, id) {
             Ok(Some(line)) => put(out, line.as_bytes()),
             Ok(None) => Answer::plain(UNKNOWN_TYPE),
-            Err(_) => Answer::plain(MEMORY),
+            Err(refused) => Answer::of_refused(refused),
         },
         Some(Resource::Session(_)) | None => Answer::plain(NO_HANDLE),
     };
@@ -229,8 +230,9 @@ fn write_value(
 ) -> Answer
     ensures { WritesJson opened.now id limits bytes.now out.old out.new result }
 {
-    let Ok(alloc) = budget.alloc.clone() else {
-        return Answer::plain(MEMORY);
+    let alloc = match clone_of(&budget.alloc) {
+        Ok(alloc) => alloc,
+        Err(refused) => return Answer::of_refused(refused),
     };
     match read_value(alloc, &opened.checked, id, limits, bytes) {
         Ok(value) => budget.put_json(&value, out),
@@ -262,7 +264,7 @@ pub extern "C" fn scaleview_decode(
     *answer = match registry.get() {
         Some(Resource::Registry(opened)) => match memory.budget(alloc) {
             Ok(budget) => write_value(&budget, opened, id, limits, bytes, out),
-            Err(_) => Answer::plain(MEMORY),
+            Err(refused) => Answer::of_refused(refused),
         },
         Some(Resource::Session(_)) | None => Answer::plain(NO_HANDLE),
     };

@@ -40,7 +40,7 @@ impl Session {
         ensures ended { Ends self.old.stage self.new.stage }
         ensures kept { Keeps self.old self.new }
     {
-        let stage = mem::replace(&mut self.stage, Stage::Refused(ValueRefusal::Memory));
+        let stage = mem::replace(&mut self.stage, Stage::Refused(ValueRefusal::UnknownType));
         self.stage = stage.ended();
     }
 }

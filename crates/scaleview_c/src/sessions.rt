@@ -16,6 +16,7 @@ use crate::resource::Resource;
 use crate::session::{Session, Stage};
 use c_answers::{Answer, NO_HANDLE, OK, TAKEN};
 use decode_core::Decoder;
+use growth_core::{clone_of, reported};
 use registry_core::TypeId;
 use scale_calls::ValueRefusal;
 use std::alloc::Global;
@@ -31,7 +32,12 @@ fn session_in(
 ) -> Result<Session, ValueRefusal>
     ensures { StartsBox held.Session registry.now id limits (call_bytes budget) result }
 {
-    let decoder = Decoder::new(budget.alloc.clone()?, &registry.checked, TypeId(id), limits)?;
+    let decoder = Decoder::new(
+        clone_of(&budget.alloc)?,
+        &registry.checked,
+        TypeId(id),
+        limits,
+    )?;
     Ok(Session {
         stage: Stage::Decoding(decoder),
         registry,
@@ -50,10 +56,7 @@ fn started(
     ensures { StartsBox (λ held. held.value) registry.now id limits memory.bytes result }
 {
     let session = session_in(memory.budget(alloc)?, registry, id, limits)?;
-    match Box::new(alloc, Resource::Session(session)) {
-        Ok(held) => Ok(held),
-        Err(_) => Err(ValueRefusal::Memory),
-    }
+    Ok(reported(Box::new(alloc, Resource::Session(session)))?)
 }
 
 /// Starts a session of a registry behind a null handle, and counts it.

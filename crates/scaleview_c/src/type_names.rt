@@ -11,7 +11,7 @@ use crate::opened::Opened;
 use crate::resource::Resource;
 use crate::text::put;
 use crate::types::put_name;
-use c_answers::{Answer, MEMORY, NO_BYTES, NO_HANDLE, OK, UNKNOWN_NAME};
+use c_answers::{Answer, NO_BYTES, NO_HANDLE, OK, UNKNOWN_NAME};
 use chain_core::NamedType;
 use std::alloc::Global;
 
@@ -88,7 +88,7 @@ fn put_named(alloc: Global, named: &NamedType, out: &mut [u8]) -> Answer
     let mut name = String::new(alloc);
     match named.push_name(&mut name) {
         Ok(()) => put_name(out, name.as_bytes(), named.id, has_bytes(named)),
-        Err(_) => Answer::plain(MEMORY),
+        Err(refused) => Answer::of_refused(refused),
     }
 }
 

@@ -12,7 +12,7 @@ ghost use Rattle.scaleview_c.specs.Types.{shape_numbers};
 use crate::lent::Lent;
 use crate::resource::Resource;
 use crate::text::put;
-use c_answers::{Answer, MEMORY, NO_HANDLE, OK, UNKNOWN_PART, UNKNOWN_TYPE};
+use c_answers::{Answer, NO_HANDLE, OK, UNKNOWN_PART, UNKNOWN_TYPE};
 use registry_core::{Primitive, TypeDef};
 use scale_calls::{
     Part, PartRefusal, arm_field, find_type, type_arm, type_definition, type_part, type_path,
@@ -282,7 +282,7 @@ pub extern "C" fn scaleview_path(
         Some(Resource::Registry(opened)) => match type_path(alloc, &opened.checked, id) {
             Ok(Some(path)) => put(out, path.as_bytes()),
             Ok(None) => Answer::plain(UNKNOWN_TYPE),
-            Err(_) => Answer::plain(MEMORY),
+            Err(refused) => Answer::of_refused(refused),
         },
         Some(Resource::Session(_)) | None => Answer::plain(NO_HANDLE),
     };

@@ -114,7 +114,7 @@ pub fn front_of<'r, A: Allocator + Clone>(
 ///
 /// `AllocError` if an allocation fails.
 pub fn shown<A: Allocator>(alloc: Global, value: &Value<'_, A>) -> Result<String, AllocError> {
-    json_text(alloc, alloc, value)
+    Ok(json_text(alloc, alloc, value)?)
 }
 
 /// Returns the JSON of a value, formatted from its tree.

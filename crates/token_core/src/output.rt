@@ -16,8 +16,9 @@ use crate::places::{
     place_between, place_byte, place_bytes, place_comma, place_decimal, place_long,
 };
 use crate::strings::{place_bits_text, place_escaped, place_hex_text};
+use growth_core::{Refused, extend_from_slice, make_room, with_capacity};
 use plain_core::{Escapes, is_plain};
-use std::alloc::{AllocError, Allocator};
+use std::alloc::Allocator;
 use std::marker::Model;
 use types_core::BitForm;
 
@@ -37,7 +38,7 @@ static ZEROS: [u8; 4096] = [0; 4096];
 /// text's length. It doubles, and from a mebibyte on it grows by a quarter. A method that appends a
 /// token takes time in proportion to the token.
 ///
-/// After an `AllocError` the text is unspecified, and the writer is to be dropped.
+/// After an `Refused` the text is unspecified, and the writer is to be dropped.
 #[derive(Drop)]
 pub struct Output<A: Allocator> {
     /// The text, and zeros after it that tokens overwrite, so that a token asks for capacity once.
@@ -64,7 +65,7 @@ fn ensure_bytes<A: Allocator>(
     bytes: &mut Vec<u8, A>,
     len: usize,
     more: usize,
-) -> Result<(), AllocError>
+) -> Result<(), Refused>
     requires { len ≤ length bytes.old.items }
     ensures ok { OnOk result (len + more ≤ length bytes.new.items) }
     ensures same { take len bytes.new.items ≡ take len bytes.old.items }
@@ -80,7 +81,7 @@ fn ensure_bytes<A: Allocator>(
 /// and from `LONG` bytes on it grows by a quarter.
 #[cold]
 #[inline(never)]
-fn grow<A: Allocator>(bytes: &mut Vec<u8, A>, more: usize) -> Result<(), AllocError>
+fn grow<A: Allocator>(bytes: &mut Vec<u8, A>, more: usize) -> Result<(), Refused>
     ensures ok { OnOk result (length bytes.old.items + more ≤ length bytes.new.items) }
     ensures same { take (length bytes.old.items) bytes.new.items ≡ bytes.old.items }
     ensures kept { length bytes.old.items ≤ length bytes.new.items }
@@ -88,13 +89,13 @@ fn grow<A: Allocator>(bytes: &mut Vec<u8, A>, more: usize) -> Result<(), AllocEr
     let len = bytes.len();
     if more > bytes.capacity() - len {
         let expected = if len < LONG { len } else { len / 4 };
-        growth_core::make_room(bytes, more, Some(expected))?;
+        make_room(bytes, more, Some(expected))?;
     }
     let spare = bytes.capacity() - len;
     let mut missing = more.max(spare.min(AHEAD));
     'zeros: while missing > 0 {
         let step = missing.min(ZEROS.len());
-        bytes.extend_from_slice(&ZEROS[..step])?;
+        extend_from_slice(bytes, &ZEROS[..step])?;
         missing -= step;
     }
     Ok(())
@@ -107,7 +108,7 @@ fn append_quoted<A: Allocator>(
     len: usize,
     comma: bool,
     text: &[u8],
-) -> Result<usize, AllocError>
+) -> Result<usize, Refused>
     requires { len ≤ length bytes.old.items }
     ensures ok { IfOk result (λ end. Appended bytes.old.items bytes.new.items len
         (cond comma (44 ∷ []) [] ++ quoted text.now) end) }
@@ -167,12 +168,12 @@ impl<A: Allocator> Output<A> {
     ///
     /// # Errors
     ///
-    /// `AllocError` if an allocation fails.
-    pub fn with_room(alloc: A, room: usize) -> Result<Output<A>, AllocError>
+    /// `Refused` if an allocation fails.
+    pub fn with_room(alloc: A, room: usize) -> Result<Output<A>, Refused>
         ensures { IfOk result (λ o. o ≡ record { text = []; after_value = false }) }
     {
         Ok(Output {
-            bytes: Vec::with_capacity(alloc, room)?,
+            bytes: with_capacity(alloc, room)?,
             len: 0,
             after_value: false,
         })
@@ -189,7 +190,7 @@ impl<A: Allocator> Output<A> {
 
     /// Appends the characters of a token.
     #[inline(always)]
-    fn put(&mut self, role: Role, characters: &str) -> Result<(), AllocError>
+    fn put(&mut self, role: Role, characters: &str) -> Result<(), Refused>
         ensures { OnOk result (self.new ≡ put self.old role characters.now) }
     {
         ensure_bytes(&mut self.bytes, self.len, characters.len() + 1)?;
@@ -209,7 +210,7 @@ impl<A: Allocator> Output<A> {
         opening: &str,
         characters: &str,
         closing: &str,
-    ) -> Result<(), AllocError>
+    ) -> Result<(), Refused>
         requires { (length opening.now ≤ 2) × (length closing.now ≤ 3) }
         ensures { OnOk result (self.new ≡ put self.old role
             (opening.now ++ (characters.now ++ closing.now))) }
@@ -225,7 +226,7 @@ impl<A: Allocator> Output<A> {
 
     /// Appends a text between quotes, escaped.
     #[inline(never)]
-    fn put_escaped(&mut self, role: Role, text: &str) -> Result<(), AllocError>
+    fn put_escaped(&mut self, role: Role, text: &str) -> Result<(), Refused>
         ensures { OnOk result (self.new ≡ put self.old role (quoted text.now)) }
     {
         let comma = role.takes_comma(self.after_value);
@@ -235,7 +236,7 @@ impl<A: Allocator> Output<A> {
     }
 
     /// Appends a key that needs an escape, and its colon.
-    fn escaped_key(&mut self, name: &str) -> Result<(), AllocError>
+    fn escaped_key(&mut self, name: &str) -> Result<(), Refused>
         ensures { AddsTokens result self.old self.new (key name.now ∷ []) }
     {
         self.put_escaped(Role::Opening, name)?;
@@ -246,9 +247,9 @@ impl<A: Allocator> Output<A> {
     ///
     /// # Errors
     ///
-    /// `AllocError` if an allocation fails.
+    /// `Refused` if an allocation fails.
     #[inline(always)]
-    pub fn begin_object(&mut self) -> Result<(), AllocError>
+    pub fn begin_object(&mut self) -> Result<(), Refused>
         ensures { AddsTokens result self.old self.new (begin_object ∷ []) }
     {
         self.put(Role::Opening, "{")
@@ -258,9 +259,9 @@ impl<A: Allocator> Output<A> {
     ///
     /// # Errors
     ///
-    /// `AllocError` if an allocation fails.
+    /// `Refused` if an allocation fails.
     #[inline(always)]
-    pub fn end_object(&mut self) -> Result<(), AllocError>
+    pub fn end_object(&mut self) -> Result<(), Refused>
         ensures { AddsTokens result self.old self.new (end_object ∷ []) }
     {
         self.put(Role::Closing, "}")
@@ -270,9 +271,9 @@ impl<A: Allocator> Output<A> {
     ///
     /// # Errors
     ///
-    /// `AllocError` if an allocation fails.
+    /// `Refused` if an allocation fails.
     #[inline(always)]
-    pub fn begin_array(&mut self) -> Result<(), AllocError>
+    pub fn begin_array(&mut self) -> Result<(), Refused>
         ensures { AddsTokens result self.old self.new (begin_array ∷ []) }
     {
         self.put(Role::Opening, "[")
@@ -282,9 +283,9 @@ impl<A: Allocator> Output<A> {
     ///
     /// # Errors
     ///
-    /// `AllocError` if an allocation fails.
+    /// `Refused` if an allocation fails.
     #[inline(always)]
-    pub fn end_array(&mut self) -> Result<(), AllocError>
+    pub fn end_array(&mut self) -> Result<(), Refused>
         ensures { AddsTokens result self.old self.new (end_array ∷ []) }
     {
         self.put(Role::Closing, "]")
@@ -294,9 +295,9 @@ impl<A: Allocator> Output<A> {
     ///
     /// # Errors
     ///
-    /// `AllocError` if an allocation fails.
+    /// `Refused` if an allocation fails.
     #[inline(always)]
-    pub fn null(&mut self) -> Result<(), AllocError>
+    pub fn null(&mut self) -> Result<(), Refused>
         ensures { AddsTokens result self.old self.new (null ∷ []) }
     {
         self.put(Role::Value, "null")
@@ -306,9 +307,9 @@ impl<A: Allocator> Output<A> {
     ///
     /// # Errors
     ///
-    /// `AllocError` if an allocation fails.
+    /// `Refused` if an allocation fails.
     #[inline(always)]
-    pub fn boolean(&mut self, x: bool) -> Result<(), AllocError>
+    pub fn boolean(&mut self, x: bool) -> Result<(), Refused>
         ensures { AddsTokens result self.old self.new (boolean x ∷ []) }
     {
         self.put(Role::Value, if x { "true" } else { "false" })
@@ -318,9 +319,9 @@ impl<A: Allocator> Output<A> {
     ///
     /// # Errors
     ///
-    /// `AllocError` if an allocation fails.
+    /// `Refused` if an allocation fails.
     #[inline(always)]
-    pub fn unsigned(&mut self, n: u64) -> Result<(), AllocError>
+    pub fn unsigned(&mut self, n: u64) -> Result<(), Refused>
         ensures { AddsTokens result self.old self.new (number (decimal n) ∷ []) }
     {
         ensure_bytes(&mut self.bytes, self.len, 21)?;
@@ -335,9 +336,9 @@ impl<A: Allocator> Output<A> {
     ///
     /// # Errors
     ///
-    /// `AllocError` if an allocation fails.
+    /// `Refused` if an allocation fails.
     #[inline(always)]
-    pub fn signed(&mut self, n: i64) -> Result<(), AllocError>
+    pub fn signed(&mut self, n: i64) -> Result<(), Refused>
         ensures { AddsTokens result self.old self.new (number (signed_decimal n) ∷ []) }
     {
         let mut buffer = itoa::Buffer::new();
@@ -348,8 +349,8 @@ impl<A: Allocator> Output<A> {
     ///
     /// # Errors
     ///
-    /// `AllocError` if an allocation fails.
-    pub fn quoted_unsigned(&mut self, n: u128) -> Result<(), AllocError>
+    /// `Refused` if an allocation fails.
+    pub fn quoted_unsigned(&mut self, n: u128) -> Result<(), Refused>
         ensures { AddsTokens result self.old self.new (string (decimal n) ∷ []) }
     {
         ensure_bytes(&mut self.bytes, self.len, 42)?;
@@ -366,8 +367,8 @@ impl<A: Allocator> Output<A> {
     ///
     /// # Errors
     ///
-    /// `AllocError` if an allocation fails.
-    pub fn quoted_signed(&mut self, n: i128) -> Result<(), AllocError>
+    /// `Refused` if an allocation fails.
+    pub fn quoted_signed(&mut self, n: i128) -> Result<(), Refused>
         ensures { AddsTokens result self.old self.new (string (signed_decimal n) ∷ []) }
     {
         let mut buffer = itoa::Buffer::new();
@@ -378,9 +379,9 @@ impl<A: Allocator> Output<A> {
     ///
     /// # Errors
     ///
-    /// `AllocError` if an allocation fails.
+    /// `Refused` if an allocation fails.
     #[inline(always)]
-    pub fn key(&mut self, name: &str, escapes: Escapes) -> Result<(), AllocError>
+    pub fn key(&mut self, name: &str, escapes: Escapes) -> Result<(), Refused>
         requires { AreEscapes escapes name.now }
         ensures { AddsTokens result self.old self.new (key name.now ∷ []) }
     {
@@ -395,9 +396,9 @@ impl<A: Allocator> Output<A> {
     ///
     /// # Errors
     ///
-    /// `AllocError` if an allocation fails.
+    /// `Refused` if an allocation fails.
     #[inline(always)]
-    pub fn begin_member(&mut self, name: &str, escapes: Escapes) -> Result<(), AllocError>
+    pub fn begin_member(&mut self, name: &str, escapes: Escapes) -> Result<(), Refused>
         requires { AreEscapes escapes name.now }
         ensures { AddsTokens result self.old self.new (begin_object ∷ key name.now ∷ []) }
     {
@@ -413,9 +414,9 @@ impl<A: Allocator> Output<A> {
     ///
     /// # Errors
     ///
-    /// `AllocError` if an allocation fails.
+    /// `Refused` if an allocation fails.
     #[inline(always)]
-    pub fn begin_array_member(&mut self, name: &str, escapes: Escapes) -> Result<(), AllocError>
+    pub fn begin_array_member(&mut self, name: &str, escapes: Escapes) -> Result<(), Refused>
         requires { AreEscapes escapes name.now }
         ensures { AddsTokens result self.old self.new
             (begin_object ∷ key name.now ∷ begin_array ∷ []) }
@@ -432,9 +433,9 @@ impl<A: Allocator> Output<A> {
     ///
     /// # Errors
     ///
-    /// `AllocError` if an allocation fails.
+    /// `Refused` if an allocation fails.
     #[inline(always)]
-    pub fn end_array_member(&mut self) -> Result<(), AllocError>
+    pub fn end_array_member(&mut self) -> Result<(), Refused>
         ensures { AddsTokens result self.old self.new (end_array ∷ end_object ∷ []) }
     {
         self.put(Role::Closing, "]}")
@@ -444,9 +445,9 @@ impl<A: Allocator> Output<A> {
     ///
     /// # Errors
     ///
-    /// `AllocError` if an allocation fails.
+    /// `Refused` if an allocation fails.
     #[inline(always)]
-    pub fn string(&mut self, text: &str) -> Result<(), AllocError>
+    pub fn string(&mut self, text: &str) -> Result<(), Refused>
         ensures { AddsTokens result self.old self.new (string text.now ∷ []) }
     {
         if is_plain(text) {
@@ -460,17 +461,13 @@ impl<A: Allocator> Output<A> {
     ///
     /// # Errors
     ///
-    /// `AllocError` if an allocation fails, or if the text would be longer than a `usize` can say.
-    pub fn hex(&mut self, bytes: &[u8]) -> Result<(), AllocError>
+    /// `Refused` if an allocation fails.
+    pub fn hex(&mut self, bytes: &[u8]) -> Result<(), Refused>
         ensures { AddsTokens result self.old self.new
             (string (codes "0x" ++ encode_lower bytes.now) ∷ []) }
     {
-        let Some(digits) = bytes.len().checked_mul(2) else {
-            return Err(AllocError);
-        };
-        let Some(room) = digits.checked_add(5) else {
-            return Err(AllocError);
-        };
+        // No vector has 2^64 - 1 bytes, so a room that is cut there is refused.
+        let room = (2 * bytes.len()).saturating_add(5);
         ensure_bytes(&mut self.bytes, self.len, room)?;
         let buffer = self.bytes.as_mut_slice();
         let at = place_comma(buffer, self.len, self.after_value);
@@ -483,8 +480,8 @@ impl<A: Allocator> Output<A> {
     ///
     /// # Errors
     ///
-    /// `AllocError` if an allocation fails.
-    pub fn bits(&mut self, form: BitForm, bytes: &[u8], count: u32) -> Result<(), AllocError>
+    /// `Refused` if an allocation fails.
+    pub fn bits(&mut self, form: BitForm, bytes: &[u8], count: u32) -> Result<(), Refused>
         ensures { AddsTokens result self.old self.new
             (string (codes "0b" ++ bit_digits form bytes.now count) ∷ []) }
     {

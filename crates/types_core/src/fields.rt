@@ -5,7 +5,8 @@ ghost use Rattle.types_core.specs.Keys.{AreKeys};
 
 use crate::definition::Field;
 use crate::keys::{Keys, keys_of};
-use std::alloc::{AllocError, Global};
+use growth_core::Refused;
+use std::alloc::Global;
 use std::marker::Model;
 
 /// The fields of a composite type or of an arm: a `Vec` that contracts see as its elements, with
@@ -37,8 +38,8 @@ impl Fields {
     ///
     /// # Errors
     ///
-    /// `AllocError` if an allocation fails.
-    pub fn from_vec(alloc: Global, vec: Vec<Field>) -> Result<Fields, AllocError>
+    /// `Refused` if an allocation fails.
+    pub fn from_vec(alloc: Global, vec: Vec<Field>) -> Result<Fields, Refused>
         requires { length vec.items < 2 ^ 32 }
         ensures { IfOk result (λ fields. fields ≡ vec.items) }
     {

@@ -6,7 +6,8 @@ ghost use Rattle.std.specs.List.{range_with_len};
 ghost use Rattle.types_core.specs.Keys.{AreKeys, key_order, order_from, positions_of};
 
 use crate::definition::Field;
-use std::alloc::{AllocError, Global};
+use growth_core::{Refused, extend_from_slice, push, reported, with_capacity};
+use std::alloc::Global;
 use std::collections::BTreeMap;
 
 /// How the values of fields are shown.
@@ -22,7 +23,7 @@ pub enum Keys {
 
 /// Returns the positions of fields in the order of their names' bytes, if each has a name and all
 /// names differ. It inserts the names into a map: a look-up for each field.
-fn order_of(alloc: Global, fields: &[Field]) -> Result<Option<Vec<u32>>, AllocError>
+fn order_of(alloc: Global, fields: &[Field]) -> Result<Option<Vec<u32>>, Refused>
     requires { length fields.now < 2 ^ 32 }
     ensures { IfOk result (λ found. option_map (λ v. v.items) found
         ≡ option_map positions_of (order_from fields.now 0 [])) }
@@ -32,13 +33,13 @@ fn order_of(alloc: Global, fields: &[Field]) -> Result<Option<Vec<u32>>, AllocEr
         let Some(name) = &field.name else {
             return Ok(None);
         };
-        if positions.insert(name.as_str(), position as u32)?.is_some() {
+        if reported(positions.insert(name.as_str(), position as u32))?.is_some() {
             return Ok(None);
         }
     }
-    let mut order = Vec::with_capacity(alloc, fields.len())?;
+    let mut order = with_capacity(alloc, fields.len())?;
     'names: for (_, position) in positions {
-        order.push(position)?;
+        push(&mut order, position)?;
     }
     Ok(Some(order))
 }
@@ -57,20 +58,20 @@ fn counts_up(order: &[u32]) -> bool
 
 /// Returns how the values of fields with this order are shown. It allocates only if the names are
 /// out of order.
-fn keys_in(alloc: Global, fields: &[Field], order: &[u32]) -> Result<Keys, AllocError>
+fn keys_in(alloc: Global, fields: &[Field], order: &[u32]) -> Result<Keys, Refused>
     requires { key_order fields.now ≡ Some order.now }
     ensures { IfOk result (λ keys. AreKeys fields.now keys) }
 {
     if counts_up(order) {
         return Ok(Keys::InOrder);
     }
-    let mut kept = Vec::with_capacity(alloc, order.len())?;
-    kept.extend_from_slice(order)?;
+    let mut kept = with_capacity(alloc, order.len())?;
+    extend_from_slice(&mut kept, order)?;
     Ok(Keys::Sorted(kept))
 }
 
 /// Returns how the values of the fields are shown.
-pub(crate) fn keys_of(alloc: Global, fields: &[Field]) -> Result<Keys, AllocError>
+pub(crate) fn keys_of(alloc: Global, fields: &[Field]) -> Result<Keys, Refused>
     requires { length fields.now < 2 ^ 32 }
     ensures { IfOk result (λ keys. AreKeys fields.now keys) }
 {

@@ -5,6 +5,7 @@ use Rattle.std.specs.Prelude.{true, false, Option, Some, None, Result, Ok, Err, 
 use Rattle.std.specs.Prelude.{is_none, option_map, if◌then◌else◌, ◌&&◌}
 use Rattle.std.specs.Str.{is_utf8}
 use Rattle.std.specs.Str.Lossy.{utf8_valid_len}
+use Rattle.growth_core.specs.Evidence.{evidence}
 use Rattle.scale_core.specs.Compact.{target_bytes}
 use Rattle.types_core.specs.Bits.{bits_bytes, first_unused}
 use Rattle.types_core.specs.Kinds.{kind_of, width_bytes}
@@ -282,7 +283,7 @@ judged_end missing b = elim missing [
 -- fault the value is unchanged
 abbrev pub Adds : Option BuildFault → Built → Built → Built → Result (Unit {0}) BuildFault → Type 0
 Adds None with old new (Ok _) = new ≡ with
-Adds None with old new (Err e) = (e ≡ fault.OutOfMemory) × (new ≡ old)
+Adds None with old new (Err e) = (e ≡ fault.OutOfMemory evidence) × (new ≡ old)
 Adds (Some f) with old new (Ok _) = ⊥
 Adds (Some f) with old new (Err e) = (e ≡ f) × (new ≡ old)
 
@@ -294,7 +295,7 @@ build_opening_fault types ty depth =
 
 abbrev pub Opens : Option BuildFault → Built → Result Built BuildFault → Type 0
 Opens None first (Ok b) = b ≡ first
-Opens None first (Err e) = e ≡ fault.OutOfMemory
+Opens None first (Err e) = e ≡ fault.OutOfMemory evidence
 Opens (Some f) first (Ok b) = ⊥
 Opens (Some f) first (Err e) = e ≡ f
 

@@ -16,9 +16,9 @@ ghost use Rattle.value_core.specs.Walked.{advanced, elements_after, next_of, ope
 use crate::raw_builder::RawBuilder;
 use crate::walk::Walk;
 use count_core::Count;
-use growth_core::GrowVec;
+use growth_core::{GrowVec, Refused};
 use node_core::{Content, Leaf, Node, Remaining};
-use std::alloc::{AllocError, Allocator};
+use std::alloc::Allocator;
 use types_core::TypeId;
 
 /// Makes room for one more node of a walk. If there is none, it also reserves for further nodes and
@@ -26,13 +26,13 @@ use types_core::TypeId;
 ///
 /// # Errors
 ///
-/// `AllocError` if the allocation for one more fails. Nothing that is there changes in either case.
+/// `Refused` if the allocation for one more fails. Nothing that is there changes in either case.
 #[inline(always)]
 fn room_for_node<A: Allocator>(
     nodes: &mut GrowVec<Node, A>,
     pool: &mut GrowVec<u8, A>,
     walk: &Walk<'_, A>,
-) -> Result<(), AllocError>
+) -> Result<(), Refused>
     ensures nodes { nodes.new.list.items ≡ nodes.old.list.items }
     ensures pool { pool.new.list.items ≡ pool.old.list.items }
     ensures room { OnOk result (vec_len nodes.new.list + 1 ≤ vec_capacity nodes.new.list) }
@@ -52,7 +52,7 @@ pub(crate) fn append<A: Allocator>(
     walk: &Walk<'_, A>,
     ty: TypeId,
     leaf: Leaf<'_>,
-) -> Result<(), AllocError>
+) -> Result<(), Refused>
     requires { FitsLeaf leaf }
     ensures ok { OnOk result (IsAppended ty leaf.entry nodes.old.list.items pool.old.list.items
         nodes.new.list.items pool.new.list.items) }
@@ -77,7 +77,7 @@ pub(crate) fn append_node<A: Allocator>(
     pool: &mut GrowVec<u8, A>,
     walk: &Walk<'_, A>,
     node: Node,
-) -> Result<(), AllocError>
+) -> Result<(), Refused>
     ensures ok { OnOk result (nodes.new.list.items ≡ nodes.old.list.items ++ node ∷ []) }
     ensures err { OnErr result (nodes.new.list.items ≡ nodes.old.list.items) }
     ensures pool { pool.new.list.items ≡ pool.old.list.items }
@@ -146,9 +146,9 @@ impl<'r, A: Allocator> RawBuilder<'r, A> {
     ///
     /// # Errors
     ///
-    /// Returns `AllocError` if an allocation fails; the builder is unchanged.
+    /// Returns `Refused` if an allocation fails; the builder is unchanged.
     #[inline(always)]
-    pub fn add_leaf(&mut self, leaf: Leaf<'_>) -> Result<(), AllocError>
+    pub fn add_leaf(&mut self, leaf: Leaf<'_>) -> Result<(), Refused>
         requires closed { self.old.run ≡ None }
         requires next { IsNextLeaf self.old.walk (leaf_head leaf) }
         requires fits { FitsLeaf leaf }
@@ -168,9 +168,9 @@ impl<'r, A: Allocator> RawBuilder<'r, A> {
     ///
     /// # Errors
     ///
-    /// Returns `AllocError` if an allocation fails; the builder is unchanged.
+    /// Returns `Refused` if an allocation fails; the builder is unchanged.
     #[inline(always)]
-    pub fn add_element(&mut self, leaf: Leaf<'_>) -> Result<(), AllocError>
+    pub fn add_element(&mut self, leaf: Leaf<'_>) -> Result<(), Refused>
         requires closed { self.old.run ≡ None }
         requires next { IsNextLeaf self.old.walk (leaf_head leaf) }
         requires fits { FitsLeaf leaf }
@@ -192,9 +192,9 @@ impl<'r, A: Allocator> RawBuilder<'r, A> {
     ///
     /// # Errors
     ///
-    /// Returns `AllocError` if an allocation fails; the builder is unchanged.
+    /// Returns `Refused` if an allocation fails; the builder is unchanged.
     #[inline(always)]
-    pub(crate) fn add_open(&mut self, content: Content, left: Remaining) -> Result<(), AllocError>
+    pub(crate) fn add_open(&mut self, content: Content, left: Remaining) -> Result<(), Refused>
         requires closed { self.old.run ≡ None }
         requires opened { size_shown content ≡ 0 }
         requires within { IsWithin (references_of self.old.walk.types) left }
@@ -224,9 +224,9 @@ impl<'r, A: Allocator> RawBuilder<'r, A> {
     ///
     /// # Errors
     ///
-    /// Returns `AllocError` if an allocation fails; the builder is unchanged.
+    /// Returns `Refused` if an allocation fails; the builder is unchanged.
     #[inline(always)]
-    fn add_childless(&mut self, content: Content, left: Remaining) -> Result<(), AllocError>
+    fn add_childless(&mut self, content: Content, left: Remaining) -> Result<(), Refused>
         requires closed { self.old.run ≡ None }
         requires opened { size_shown content ≡ 0 }
         requires none { first_of (left_of self.old.walk.types left) ≡ None }
@@ -255,14 +255,14 @@ impl<'r, A: Allocator> RawBuilder<'r, A> {
     ///
     /// # Errors
     ///
-    /// Returns `AllocError` if an allocation fails; the builder is unchanged.
+    /// Returns `Refused` if an allocation fails; the builder is unchanged.
     #[inline(always)]
     pub(crate) fn add_around(
         &mut self,
         content: Content,
         part: TypeId,
         leaf: Leaf<'_>,
-    ) -> Result<bool, AllocError>
+    ) -> Result<bool, Refused>
         requires closed { self.old.run ≡ None }
         requires opened { size_shown content ≡ 0 }
         requires next { IsNextOpen self.old.walk (head_shown [] 1 content) (each (part.0 ∷ [])) }

@@ -4,7 +4,7 @@ ghost use Rattle.std.specs.Prelude.{◌≡◌};
 ghost use Rattle.value_core.specs.Refusals.{build_fault_of};
 
 use grammar_core::StopReason;
-use std::alloc::AllocError;
+use growth_core::Refused;
 
 /// Why a builder rejects a call, which changes nothing. If several apply, an adding call reports
 /// the first of this list, and `new` an unknown type before a depth limit outside its range.
@@ -34,7 +34,7 @@ pub enum BuildFault {
         valid: u64,
     },
     /// An allocation failed.
-    OutOfMemory,
+    OutOfMemory(Refused),
 }
 
 impl From<StopReason> for BuildFault {
@@ -50,13 +50,13 @@ impl From<StopReason> for BuildFault {
     }
 }
 
-impl From<AllocError> for BuildFault {
+impl From<Refused> for BuildFault {
     ghost use Rattle.std.specs.Prelude.{◌≡◌};
     ghost use Rattle.value_core.specs.declared.build_fault.BuildFault.TheVariants.{OutOfMemory};
 
-    ghost from_gives = { λ _ r. r ≡ OutOfMemory };
+    ghost from_gives = { λ refused fault. fault ≡ OutOfMemory refused };
 
-    fn from(_: AllocError) -> BuildFault {
-        BuildFault::OutOfMemory
+    fn from(refused: Refused) -> BuildFault {
+        BuildFault::OutOfMemory(refused)
     }
 }

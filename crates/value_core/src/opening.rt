@@ -9,8 +9,9 @@ ghost use Rattle.value_core.specs.Wrapped.{Wraps, WrapsArray};
 
 use crate::raw_builder::RawBuilder;
 use grammar_core::{Form, Next};
+use growth_core::Refused;
 use node_core::{Content, Leaf};
-use std::alloc::{AllocError, Allocator};
+use std::alloc::Allocator;
 use types_core::TypeId;
 
 impl<'r, A: Allocator> RawBuilder<'r, A> {
@@ -18,9 +19,9 @@ impl<'r, A: Allocator> RawBuilder<'r, A> {
     ///
     /// # Errors
     ///
-    /// Returns `AllocError` if an allocation fails; the builder is unchanged.
+    /// Returns `Refused` if an allocation fails; the builder is unchanged.
     #[inline(always)]
-    pub fn add_fields(&mut self) -> Result<(), AllocError>
+    pub fn add_fields(&mut self) -> Result<(), Refused>
         requires closed { self.old.run ≡ None }
         requires next { next_of self.old.walk ≡ Next.Wants Form.Fields }
         ensures ok { OnOk result (self.new ≡ with_fields self.old) }
@@ -39,9 +40,9 @@ impl<'r, A: Allocator> RawBuilder<'r, A> {
     ///
     /// # Errors
     ///
-    /// Returns `AllocError` if an allocation fails; the builder is unchanged.
+    /// Returns `Refused` if an allocation fails; the builder is unchanged.
     #[inline(always)]
-    pub fn add_wrapped(&mut self, bytes: &[u8]) -> Result<Option<usize>, AllocError>
+    pub fn add_wrapped(&mut self, bytes: &[u8]) -> Result<Option<usize>, Refused>
         requires closed { self.old.run ≡ None }
         requires next { next_of self.old.walk ≡ Next.Wants Form.Fields }
         ensures added { IfOk result (λ found. IfSome found
@@ -64,9 +65,9 @@ impl<'r, A: Allocator> RawBuilder<'r, A> {
     ///
     /// # Errors
     ///
-    /// Returns `AllocError` if an allocation fails; the builder is unchanged.
+    /// Returns `Refused` if an allocation fails; the builder is unchanged.
     #[inline(never)]
-    fn add_wrapped_array(&mut self, part: TypeId, array: &[u8]) -> Result<bool, AllocError>
+    fn add_wrapped_array(&mut self, part: TypeId, array: &[u8]) -> Result<bool, Refused>
         requires closed { self.old.run ≡ None }
         requires next { next_of self.old.walk ≡ Next.Wants Form.Fields }
         requires wraps { WrapsArray self.old.walk part.0 (length array.now) }
@@ -83,9 +84,9 @@ impl<'r, A: Allocator> RawBuilder<'r, A> {
     ///
     /// # Errors
     ///
-    /// Returns `AllocError` if an allocation fails; the builder is unchanged.
+    /// Returns `Refused` if an allocation fails; the builder is unchanged.
     #[inline(always)]
-    pub fn add_arm(&mut self, index: u8) -> Result<bool, AllocError>
+    pub fn add_arm(&mut self, index: u8) -> Result<bool, Refused>
         requires closed { self.old.run ≡ None }
         requires next { next_of self.old.walk ≡ Next.Wants Form.Arm }
         ensures found { IfOk result (λ b. b ≡ is_some (arm_in (next_layout self.old) index)) }
@@ -106,9 +107,9 @@ impl<'r, A: Allocator> RawBuilder<'r, A> {
     ///
     /// # Errors
     ///
-    /// Returns `AllocError` if an allocation fails; the builder is unchanged.
+    /// Returns `Refused` if an allocation fails; the builder is unchanged.
     #[inline(always)]
-    pub fn add_list(&mut self, count: u32) -> Result<(), AllocError>
+    pub fn add_list(&mut self, count: u32) -> Result<(), Refused>
         requires closed { self.old.run ≡ None }
         requires next { IsListNext self.old.walk count }
         ensures ok { OnOk result (self.new ≡ with_list self.old count) }

@@ -17,10 +17,10 @@ use crate::appending::{append_node, close_complete};
 use crate::walk::Walk;
 use count_core::Count;
 use grammar_core::{MAX_DEPTH, Next, RunKind};
-use growth_core::GrowVec;
+use growth_core::{GrowVec, Refused, clone_of};
 use node_core::{Node, OpenRun, Value, put_piece};
 use simdutf8::compat::from_utf8;
-use std::alloc::{AllocError, Allocator};
+use std::alloc::Allocator;
 use std::marker::Model;
 use types_core::TypeId;
 use widths_core::Checked;
@@ -66,14 +66,14 @@ impl<'r, A: Allocator + Clone> RawBuilder<'r, A> {
     ///
     /// # Errors
     ///
-    /// Returns `AllocError` if an allocation fails.
+    /// Returns `Refused` if an allocation fails.
     #[inline(never)]
     pub fn begin(
         alloc: A,
         checked: &'r Checked,
         root: TypeId,
         depth: u16,
-    ) -> Result<RawBuilder<'r, A>, AllocError>
+    ) -> Result<RawBuilder<'r, A>, Refused>
         requires { depth ≤ MAX_DEPTH }
         ensures { IfOk result (λ b. b ≡ record {
           ty = root.0;
@@ -83,8 +83,8 @@ impl<'r, A: Allocator + Clone> RawBuilder<'r, A> {
           turns = 0;
         }) }
     {
-        let nodes = GrowVec::new(alloc.clone()?);
-        let pool = GrowVec::new(alloc.clone()?);
+        let nodes = GrowVec::new(clone_of(&alloc)?);
+        let pool = GrowVec::new(clone_of(&alloc)?);
         Ok(RawBuilder {
             root,
             walk: Walk::new(alloc, checked, root, depth),
@@ -223,9 +223,9 @@ impl<'r, A: Allocator> RawBuilder<'r, A> {
     ///
     /// # Errors
     ///
-    /// Returns `AllocError` if an allocation fails; the builder is unchanged.
+    /// Returns `Refused` if an allocation fails; the builder is unchanged.
     #[inline(always)]
-    pub fn extend_run(&mut self, piece: &[u8]) -> Result<(), AllocError>
+    pub fn extend_run(&mut self, piece: &[u8]) -> Result<(), Refused>
         requires open { IsSome self.old.run }
         requires lacks { IfOk (missing_of self.old) (λ m. length piece.now ≤ m.1) }
         ensures ok { OnOk result (self.new ≡ with_piece self.old piece.now) }
@@ -259,8 +259,8 @@ impl<'r, A: Allocator> RawBuilder<'r, A> {
     ///
     /// # Errors
     ///
-    /// Returns `AllocError` if an allocation fails; the builder is unchanged.
-    pub fn close_run(&mut self) -> Result<(), AllocError>
+    /// Returns `Refused` if an allocation fails; the builder is unchanged.
+    pub fn close_run(&mut self) -> Result<(), Refused>
         requires whole { IfSome self.old.run (λ run. IsRunComplete self.old) }
         requires valid { bad_text self.old.run ≡ None }
         requires clean { IsCleanRun self.old.run }

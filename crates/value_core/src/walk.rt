@@ -13,9 +13,9 @@ ghost use Rattle.value_core.specs.Walked.{Closes, IsBounded, elements_after, is_
 ghost use Rattle.value_core.specs.Wrapped.{WrapsArray};
 
 use grammar_core::{Form, MAX_DEPTH, Next, StopReason, next_of_step};
-use growth_core::GrowVec;
+use growth_core::{GrowVec, Refused};
 use node_core::{Frame, Node, Remaining};
-use std::alloc::{AllocError, Allocator};
+use std::alloc::Allocator;
 use std::marker::Model;
 use types_core::TypeId;
 use widths_core::{Checked, TypeStep};
@@ -61,9 +61,9 @@ fn elements_in(step: TypeStep, length: u32) -> Remaining
     }
 }
 
-/// Appends a frame. If the allocation fails, it returns `AllocError`, and the frames are unchanged.
+/// Appends a frame. If the allocation fails, it returns `Refused`, and the frames are unchanged.
 #[inline(always)]
-fn push_frame<A: Allocator>(frames: &mut GrowVec<Frame, A>, frame: Frame) -> Result<(), AllocError>
+fn push_frame<A: Allocator>(frames: &mut GrowVec<Frame, A>, frame: Frame) -> Result<(), Refused>
     ensures ok { OnOk result (frames.new.list.items ≡ frames.old.list.items ++ frame ∷ []) }
     ensures len { OnOk result (length frames.new.list.items ≡ length frames.old.list.items + 1) }
     ensures err { OnErr result (frames.new.list.items ≡ frames.old.list.items) }
@@ -222,7 +222,7 @@ impl<'r, A: Allocator> Walk<'r, A> {
 
     /// Opens the next node, whose parts come next. If the allocation fails, nothing changes.
     #[inline(always)]
-    pub(crate) fn enter(&mut self, node: usize, left: Remaining) -> Result<(), AllocError>
+    pub(crate) fn enter(&mut self, node: usize, left: Remaining) -> Result<(), Refused>
         requires next { IsSome (next_type self.old) }
         requires room { length self.old.frames ≤ self.old.limit + 1 }
         requires within { IsWithin (references_of self.old.types) left }
@@ -263,14 +263,14 @@ impl<'r, A: Allocator> Walk<'r, A> {
     ///
     /// # Errors
     ///
-    /// `AllocError` if the allocation for one node fails; nothing that is there changes.
+    /// `Refused` if the allocation for one node fails; nothing that is there changes.
     #[cold]
     #[inline(never)]
     pub(crate) fn grow_for_node(
         &self,
         nodes: &mut GrowVec<Node, A>,
         pool: &mut GrowVec<u8, A>,
-    ) -> Result<(), AllocError>
+    ) -> Result<(), Refused>
         ensures nodes { nodes.new.list.items ≡ nodes.old.list.items }
         ensures pool { pool.new.list.items ≡ pool.old.list.items }
         ensures room { OnOk result (vec_len nodes.new.list + 1 ≤ vec_capacity nodes.new.list) }
@@ -288,9 +288,9 @@ impl<'r, A: Allocator> Walk<'r, A> {
         let expected = most.saturating_add(most / 16);
         let bytes = pool.len().saturating_mul(expected) / len;
         if bytes > 0 {
-            pool.make_room_ahead(bytes.max(pool.len() / 8))?;
+            pool.make_room_ahead(bytes)?;
         }
-        nodes.make_room(1, Some(expected.max(len / 8)))
+        nodes.make_room(1, Some(expected))
     }
 
     /// Returns the registry of the types.

@@ -164,7 +164,7 @@ pub(crate) fn check_refusal<A: Allocator>(
     fault: BuildFault,
     before: Standing,
 ) {
-    same(rt, fault, BuildFault::OutOfMemory);
+    same(rt, reason_of(fault), Reason::OutOfMemory);
     same(rt, what_stands(builder), before);
 }
 
@@ -302,8 +302,22 @@ fn each_kind_of_call_reports_a_failed_allocation(rt: HostRuntime) {
     check_runs(&rt, rt.alloc());
 }
 
-/// A call, and the error with which it is rejected.
-type Answer = (Call<'static>, Option<BuildFault>);
+/// Why a call is rejected.
+#[derive(Clone, Copy, Debug, PartialEq, Eq)]
+enum Reason {
+    OutOfMemory,
+    Fault(BuildFault),
+}
+
+fn reason_of(fault: BuildFault) -> Reason {
+    match fault {
+        BuildFault::OutOfMemory(_) => Reason::OutOfMemory,
+        fault => Reason::Fault(fault),
+    }
+}
+
+/// A call, and why it is rejected.
+type Answer = (Call<'static>, Option<Reason>);
 
 /// A registry, a type, the request that fails, the calls with their errors, and whether the request
 /// is made.
@@ -320,10 +334,13 @@ const ORDERS: [Order; 3] = [
             (Call::BytesStart(2), None),
             (
                 Call::BytesPiece(b"\x07\xff\x00"),
-                Some(BuildFault::OutOfRange),
+                Some(Reason::Fault(BuildFault::OutOfRange)),
             ),
-            (Call::BytesEnd, Some(BuildFault::UnfinishedValue)),
-            (Call::BytesPiece(b"\x07\xff"), Some(BuildFault::OutOfMemory)),
+            (
+                Call::BytesEnd,
+                Some(Reason::Fault(BuildFault::UnfinishedValue)),
+            ),
+            (Call::BytesPiece(b"\x07\xff"), Some(Reason::OutOfMemory)),
             (Call::BytesPiece(b"\x07\xff"), None),
         ],
         true,
@@ -335,7 +352,10 @@ const ORDERS: [Order; 3] = [
         &[
             (Call::TextStart(1), None),
             (Call::TextPiece(b"\xff"), None),
-            (Call::TextEnd, Some(BuildFault::BadText { valid: 0 })),
+            (
+                Call::TextEnd,
+                Some(Reason::Fault(BuildFault::BadText { valid: 0 })),
+            ),
         ],
         false,
     ),
@@ -359,7 +379,7 @@ fn check_answers<A: Allocator + Clone>(
     let mut builder = begun(memory, checked, ty, 64).expect(rt, "a builder");
     'calls: for answer in answers {
         let (call, fault) = *answer;
-        same(rt, add(&mut builder, call).err(), fault);
+        same(rt, add(&mut builder, call).err().map(reason_of), fault);
     }
 }
 
@@ -380,14 +400,14 @@ fn a_bad_call_is_reported_before_a_failed_allocation(rt: HostRuntime) {
 }
 
 /// A request that fails, a type, a depth limit, and the error of a new builder.
-type New = (u64, u32, u16, Option<BuildFault>);
+type New = (u64, u32, u16, Option<Reason>);
 
 const NEW_BUILDERS: [New; 7] = [
-    (1, 1, 64, Some(BuildFault::UnknownType)),
-    (1, 1, 1025, Some(BuildFault::UnknownType)),
-    (1, 0, 1025, Some(BuildFault::OutOfRange)),
-    (1, 0, 1024, Some(BuildFault::OutOfMemory)),
-    (2, 0, 1024, Some(BuildFault::OutOfMemory)),
+    (1, 1, 64, Some(Reason::Fault(BuildFault::UnknownType))),
+    (1, 1, 1025, Some(Reason::Fault(BuildFault::UnknownType))),
+    (1, 0, 1025, Some(Reason::Fault(BuildFault::OutOfRange))),
+    (1, 0, 1024, Some(Reason::OutOfMemory)),
+    (2, 0, 1024, Some(Reason::OutOfMemory)),
     (3, 0, 1024, None),
     (0, 0, 1024, None),
 ];
@@ -400,6 +420,6 @@ fn a_builder_without_memory_is_not_made(rt: HostRuntime) {
         let (request, ty, depth, fault) = *row;
         let memory = Rationed::new(rt.alloc(), request);
         let reported = Builder::new(memory, &checked, TypeId(ty), depth).err();
-        same(&rt, reported, fault);
+        same(&rt, reported.map(reason_of), fault);
     }
 }

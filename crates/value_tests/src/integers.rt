@@ -21,7 +21,7 @@ fn write_integers(out: &mut Vec<u8>) -> Result<(), AllocError> {
     write_i16(out, -2)?;
     write_i32(out, -65536)?;
     write_i64(out, i64::MIN)?;
-    write_i128(out, -1)
+    Ok(write_i128(out, -1)?)
 }
 
 #[test]
@@ -66,7 +66,7 @@ fn write_others(out: &mut Vec<u8>) -> Result<(), AllocError> {
     write_bool(out, true)?;
     write_char(out, '\u{e9}')?;
     write_text(out, "\u{e9}\u{e9}")?;
-    write_wide(out, WIDE)
+    Ok(write_wide(out, WIDE)?)
 }
 
 #[test]

@@ -1,6 +1,7 @@
 //! The parts of a registry's types.
 
 use crate::expect::same;
+use growth_core::Refused;
 use registry_core::{
     Arm, Field, Items, Keys, Name, Param, Registry, RegistryFault, RegistryReason, Text, TypeDef,
     TypeId, read_registry,
@@ -110,7 +111,7 @@ fn texts_and_lists_keep_what_they_were_made_of(rt: HostRuntime) {
 #[test]
 fn a_failed_allocation_is_printed_by_its_name(rt: HostRuntime) {
     let fault = RegistryFault {
-        reason: RegistryReason::OutOfMemory,
+        reason: RegistryReason::OutOfMemory(Refused::of_library()),
         at: 7,
     };
     let printed = format!(in rt.alloc(); "{fault}").expect(&rt, "memory");

@@ -122,7 +122,8 @@ fn check_checked(
             check_text(alloc, Way::CheckReferences, check, &line)?;
             check_written(alloc, &registry, bytes)
         }
-        Err((CheckFault::OutOfMemory, _)) => Err(Wrong::Memory),
+        Err((CheckFault::TooLarge(_), _)) => Err(Wrong::Call("Checked::new")),
+        Err((CheckFault::OutOfMemory(_), _)) => Err(Wrong::Memory),
     }
 }
 

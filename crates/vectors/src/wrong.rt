@@ -1,6 +1,7 @@
 //! Why the answer to a row is wrong.
 
 use crate::way::Way;
+use growth_core::Refused;
 use std::alloc::{AllocError, Global};
 use std::fmt;
 use std::fmt::{Debug, Display};
@@ -20,6 +21,12 @@ pub(crate) enum Wrong {
 
 impl From<AllocError> for Wrong {
     fn from(_error: AllocError) -> Wrong {
+        Wrong::Memory
+    }
+}
+
+impl From<Refused> for Wrong {
+    fn from(_refused: Refused) -> Wrong {
         Wrong::Memory
     }
 }

@@ -11,4 +11,5 @@ use Rattle.widths_core.specs.Checks.{Explains}
 -- the fault that is reported explains itself
 pub explains : (r : List TypeInfo) (f : CheckFault) → IsFaultOf f (first_fault r) → Explains r f
 explains r (fault.UnknownType from to) h = ((fault_is_first r).2 from.0 to.0).0 h
-explains r fault.OutOfMemory h = (fault_is_first r).0 h
+explains r (fault.TooLarge _) h = (fault_is_first r).0 h
+explains r (fault.OutOfMemory _) h = (fault_is_first r).0 h

@@ -12,7 +12,7 @@ use Rattle.graph_core.specs.declared.link_stop.LinkStop.{LinkStop}
 use Rattle.graph_core.specs.Types.{field_types}
 use Rattle.widths_core.specs.Rules.{Rule, rule, arm_rules, all_parts}
 use Rattle.graph_core.specs.Graphs.{BeginsArm, ReadsReferences}
-use Rattle.graph_core.specs.Stops.{StopsBetween, StopsLinking}
+use Rattle.graph_core.specs.Stops.{IsShort, StopsBetween, StopsLinking}
 use Rattle.graph_core.specs.declared.link_stop.LinkStop.TheVariants as stop
 use Rattle.graph_core.proofs.Linked.{reads_begun, reads_on}
 use Rattle.widths_core.proofs.PartsOf.{parts_of_arms}
@@ -52,8 +52,16 @@ stops_memory_after a b m c xs ks ys ls index count h begins k =
     stops_read a c (xs ++ ([] ++ ys)) (ks ++ ([] ++ ls)) (reads_on a b c xs ([] ++ ys) ks ([] ++ ls)
     h (reads_on b m c [] ys [] ls (reads_begun b m index count h.linked begins) k))
 
--- where an allocation failure is answered
-pub stops_memory_is : {X : Type 0} (o : Result X LinkStop) (tos : List ℕ) (a b : Graph) →
-    o ≡ Err stop.Memory → StopsBetween a b → IfErr o (StopsLinking tos a b)
-stops_memory_is (Ok x) tos a b e h = absurd cc
-stops_memory_is (Err s) tos a b e h = let is : s ≡ stop.Memory = cc in rw is h
+-- a stop at no reference may come after any of them
+stops_short : (s : LinkStop) (tos : List ℕ) (a b : Graph) → IsShort s → StopsBetween a b →
+    StopsLinking tos a b s
+stops_short (stop.Memory _) tos a b short h = h
+stops_short (stop.TooMany _) tos a b short h = h
+stops_short (stop.Unknown u) tos a b short h = absurd short
+
+-- where a stop at no reference is answered
+pub stops_short_is : {X : Type 0} (o : Result X LinkStop) (s : LinkStop) (tos : List ℕ)
+    (a b : Graph) → o ≡ Err s → IsShort s → StopsBetween a b → IfErr o (StopsLinking tos a b)
+stops_short_is (Ok x) s tos a b e short h = absurd cc
+stops_short_is (Err o) s tos a b e short h =
+    let is : o ≡ s = cc in rw is (stops_short s tos a b short h)

@@ -5,7 +5,7 @@ ghost use Rattle.types_core.specs.Fits.{FitsRegistry};
 ghost use Rattle.graph_core.specs.Graphs.{IsUnread};
 ghost use Rattle.graph_core.specs.References.{first_fault};
 ghost use Rattle.graph_core.specs.Stops.{IsAnsweredFault, IsFaultOf, IsFaultWithin, IsRefusedFor};
-ghost use Rattle.graph_core.specs.Stops.{IsUnderWay};
+ghost use Rattle.graph_core.specs.Stops.{IsGivenUp, IsUnderWay};
 ghost use Rattle.widths_core.specs.Analysed.{AreSettled, HasFewLooks, IsAnalysed, IsLinkedWith};
 ghost use Rattle.widths_core.specs.Propagation.{Lists};
 ghost use Rattle.widths_core.specs.Steps.{IsTable};
@@ -17,7 +17,8 @@ use crate::rows::Rows;
 use crate::settling::Settling;
 use crate::type_step::TypeStep;
 use graph_core::{CheckFault, Examined, Graph, Reference, Sizes, first_unknown, sizes_of};
-use std::alloc::{AllocError, Global};
+use growth_core::Refused;
+use std::alloc::Global;
 use types_core::Registry;
 
 /// The types of a registry after their second look.
@@ -59,22 +60,23 @@ fn read_types(alloc: Global, graph: &mut Graph) -> Result<Read, CheckFault>
         references,
         arms,
         widest,
-    } = sizes_of(graph).ok_or(CheckFault::OutOfMemory)?;
+    } = sizes_of(graph)?;
     graph.prepare(alloc, references)?;
     let linked = link_types(alloc, graph, arms)?;
     Ok(Read { linked, widest })
 }
 
-/// Returns why types could not be read after a failed allocation: the first unknown reference, or
-/// `OutOfMemory` if every reference is known. Only what was not read is read for it.
-fn fault_of(graph: &mut Graph) -> CheckFault
+/// Returns why types are rejected whose reading was given up for this fault: the first unknown
+/// reference, or the fault if every reference is known. Only what was not read is read for it.
+fn first_fault_or(graph: &mut Graph, fault: CheckFault) -> CheckFault
     requires fits { length graph.old.registry < 2 ^ 32 }
     requires begun { IsUnderWay graph.old.registry graph.old }
+    requires given_up { IsGivenUp fault }
     ensures { IsFaultWithin graph.old.registry graph.new result }
 {
     match first_unknown(graph) {
         Some(Reference { from, to }) => CheckFault::UnknownType { from, to },
-        None => CheckFault::OutOfMemory,
+        None => fault,
     }
 }
 
@@ -88,13 +90,13 @@ fn read_or_fault(alloc: Global, graph: &mut Graph) -> Result<Read, CheckFault>
 {
     match read_types(alloc, graph) {
         Ok(read) => Ok(read),
-        Err(CheckFault::OutOfMemory) => Err(fault_of(graph)),
-        Err(fault) => Err(fault),
+        Err(CheckFault::UnknownType { from, to }) => Err(CheckFault::UnknownType { from, to }),
+        Err(fault) => Err(first_fault_or(graph, fault)),
     }
 }
 
 /// Settles the types of a graph.
-fn settle_types(alloc: Global, graph: &mut Graph, read: Read) -> Result<Tables, AllocError>
+fn settle_types(alloc: Global, graph: &mut Graph, read: Read) -> Result<Tables, Refused>
     requires { IsLinkedWith graph.old.registry read.linked read.widest graph.old }
     ensures analysed { IfOk result (λ t.
         IsAnalysed graph.old.registry t.rows t.steps.items t.widest graph.new) }

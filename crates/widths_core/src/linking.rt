@@ -1,13 +1,12 @@
 //! Reads a registry once: checks and lists references, and makes counters and steps.
 
 ghost use Rattle.std.specs.Prelude.{◌≡◌, ℕ, ◌<◌, ◌^◌, ◌++◌, ◌∷◌, [], length, false, None, IfOk};
-ghost use Rattle.std.specs.Prelude.{IfErr};
+ghost use Rattle.std.specs.Prelude.{IfErr, ◌*◌, ◌+◌, ◌-◌, min};
 ghost use Rattle.types_core.specs.declared.definition.TypeDef.TheVariants.{Variant};
 ghost use Rattle.graph_core.specs.Cursors.{arms_left, current, open_definition, parts_left};
 ghost use Rattle.graph_core.specs.Graphs.{AreSeen, IsLinked, IsNew, refs};
 ghost use Rattle.graph_core.specs.Outlines.{IsTold};
-ghost use Rattle.graph_core.specs.Stops.{IsRefusedFor, IsUnderWay, StopsLinking};
-ghost use Rattle.graph_core.specs.declared.link_stop.LinkStop.TheVariants.{Memory};
+ghost use Rattle.graph_core.specs.Stops.{IsRefusedFor, IsShort, IsUnderWay, StopsLinking};
 ghost use Rattle.widths_core.specs.Linking.{AddsRules, AreTypesLinked, LinksType};
 ghost use Rattle.widths_core.specs.Rows.{IsPaired, Keeps};
 ghost use Rattle.widths_core.specs.Rules.{all_parts, arm_rules, array_rules, found_of_primitive};
@@ -21,7 +20,8 @@ use crate::class::Class;
 use crate::counter::{Counter, Found, Kind};
 use crate::rows::Rows;
 use crate::type_step::{ArmStep, Parts, TypeStep};
-use graph_core::{CheckFault, Definition, Graph, LinkStop};
+use graph_core::{CheckFault, Definition, Graph, LinkStop, number};
+use growth_core::{push, with_capacity};
 use scale_core::Target;
 use std::alloc::Global;
 use types_core::{IntegerWidth, Primitive, PrimitiveKind};
@@ -52,19 +52,18 @@ fn count_parts(
           left = parts;
           sized = false;
         } ∷ [])) }
-    ensures memory { IfErr result (λ stop. stop ≡ Memory) }
+    ensures stops { IfErr result IsShort }
 {
-    let number = counters.len();
-    if number >= u32::MAX as usize || parts > u32::MAX as usize {
-        return Err(LinkStop::Memory);
-    }
-    counters.push(Counter {
+    let at = number(counters.len())?;
+    let left = number(parts)?;
+    let counter = Counter {
         owner,
         kind,
-        left: parts as u32,
+        left,
         sized: false,
-    })?;
-    Ok(number as u32)
+    };
+    push(counters, counter)?;
+    Ok(at)
 }
 
 /// Counts the open references together, and returns their position among all references.
@@ -115,14 +114,6 @@ fn link_one(
 {
     let counter = count_parts(counters, owner, kind, 1)?;
     graph.next(counter)
-}
-
-/// Returns the number in four bytes.
-fn number(value: usize) -> Result<u32, LinkStop>
-    ensures same { IfOk result (λ n. n ≡ value) }
-    ensures memory { IfErr result (λ stop. stop ≡ Memory) }
-{
-    u32::try_from(value).ok().ok_or(LinkStop::Memory)
 }
 
 /// Counts the fields of each arm together; those of shadowed arms settle nothing. Returns the
@@ -371,10 +362,12 @@ pub(crate) struct Linked {
     pub rows: Rows,
 }
 
-/// Returns how many counters this many types with this many arms have at most, or `None` if that is
-/// no `usize`.
-fn counters_of(types: usize, arms: usize) -> Option<usize> {
-    types.checked_mul(2)?.checked_add(arms)
+/// Returns how many counters this many types with this many arms have at most. A count above
+/// 2^64 - 1 is 2^64 - 1.
+fn counters_of(types: usize, arms: usize) -> usize
+    ensures { result ≡ min (2 * types + arms) (2 ^ 64 - 1) }
+{
+    types.saturating_mul(2).saturating_add(arms)
 }
 
 /// Reads the types once: returns the counters, and the steps as far as they are known.
@@ -397,15 +390,14 @@ pub(crate) fn link_types(
     ensures refused { IfErr result (IsRefusedFor graph.old.registry graph.new) }
 {
     let types = graph.count();
-    let most_counters = counters_of(types, arms).ok_or(CheckFault::OutOfMemory)?;
-    let mut counters = Vec::with_capacity(alloc, most_counters)?;
-    let mut steps = Vec::with_capacity(alloc, types)?;
+    let mut counters = with_capacity(alloc, counters_of(types, arms))?;
+    let mut steps = with_capacity(alloc, types)?;
     let mut rows = Rows::with_capacity(alloc, arms)?;
     'types: for position in 0..types {
         let position = position as u32;
         let definition = graph.open(position);
         match link_definition(graph, &mut counters, &mut rows, position, definition) {
-            Ok(step) => steps.push(step)?,
+            Ok(step) => push(&mut steps, step)?,
             Err(stop) => return Err(stop.in_type(position)),
         }
     }

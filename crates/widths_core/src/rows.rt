@@ -6,7 +6,8 @@ ghost use Rattle.widths_core.specs.Rows.{IsPlace, IsSearched, IsPaired, HasNoRow
 ghost use Rattle.widths_core.specs.Rows.{Rises, Inserts};
 
 use crate::type_step::ArmStep;
-use std::alloc::{AllocError, Global};
+use growth_core::{Refused, insert, with_capacity};
+use std::alloc::Global;
 
 /// The arms that no earlier arm of the same index shadows: one row for each variant, by ascending
 /// index. An arm takes 13 bytes.
@@ -35,12 +36,12 @@ fn place_of(row: &[u8], index: u8) -> Option<usize>
 
 impl Rows {
     /// Creates no rows, with capacity for this many arms.
-    pub(crate) fn with_capacity(alloc: Global, arms: usize) -> Result<Rows, AllocError>
+    pub(crate) fn with_capacity(alloc: Global, arms: usize) -> Result<Rows, Refused>
         ensures { IfOk result (λ rows. HasNoRow rows) }
     {
         Ok(Rows {
-            indexes: Vec::with_capacity(alloc, arms)?,
-            arms: Vec::with_capacity(alloc, arms)?,
+            indexes: with_capacity(alloc, arms)?,
+            arms: with_capacity(alloc, arms)?,
         })
     }
 
@@ -65,13 +66,13 @@ impl Rows {
     }
 
     /// Inserts an arm before those from a position on.
-    pub(crate) fn insert(&mut self, at: usize, index: u8, arm: ArmStep) -> Result<(), AllocError>
+    pub(crate) fn insert(&mut self, at: usize, index: u8, arm: ArmStep) -> Result<(), Refused>
         requires paired { IsPaired self.old }
         requires within { at ≤ length self.old.indexes.items }
         ensures { OnOk result (Inserts self.old self.new at index arm) }
     {
-        self.indexes.insert(at, index)?;
-        self.arms.insert(at, arm)?;
+        insert(&mut self.indexes, at, index)?;
+        insert(&mut self.arms, at, arm)?;
         Ok(())
     }
 

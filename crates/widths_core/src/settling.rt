@@ -15,8 +15,9 @@ use crate::linking::Linked;
 use crate::rows::Rows;
 use crate::type_step::TypeStep;
 use graph_core::Graph;
+use growth_core::{Refused, filled, push, with_capacity};
 use scale_core::Target;
-use std::alloc::{AllocError, Global};
+use std::alloc::Global;
 
 /// What is found so far, and the types that have settled.
 #[derive(Drop)]
@@ -36,7 +37,7 @@ pub(crate) struct Settling {
 
 impl Settling {
     /// Creates the state in which no type has settled.
-    pub(crate) fn new(alloc: Global, linked: Linked, count: usize) -> Result<Settling, AllocError>
+    pub(crate) fn new(alloc: Global, linked: Linked, count: usize) -> Result<Settling, Refused>
         ensures { IfOk result (λ s.
             progress_of s ≡ record {
               counters = linked.counters.items;
@@ -52,20 +53,20 @@ impl Settling {
             steps,
             rows,
         } = linked;
-        let classes = vec![in alloc; Class::NoValue; count]?;
-        let targets = vec![in alloc; None; count]?;
+        let classes = filled(alloc, Class::NoValue, count)?;
+        let targets = filled(alloc, None, count)?;
         Ok(Settling {
             counters,
             classes,
             targets,
-            settled: Vec::with_capacity(alloc, count)?,
+            settled: with_capacity(alloc, count)?,
             steps,
             rows,
         })
     }
 
     /// Settles a type as found, unless it has settled before, with its new step, if there is one.
-    fn settle(&mut self, owner: u32, found: Found, step: Option<TypeStep>) -> Result<(), AllocError>
+    fn settle(&mut self, owner: u32, found: Found, step: Option<TypeStep>) -> Result<(), Refused>
         requires { KnowsType (progress_of self.old) owner }
         ensures { OnOk result (progress_of self.new
             ≡ settled_as (progress_of self.old) owner found step) }
@@ -74,7 +75,7 @@ impl Settling {
         if self.classes[position].has_value() {
             return Ok(());
         }
-        self.settled.push(owner)?;
+        push(&mut self.settled, owner)?;
         self.classes[position] = found.class;
         self.targets[position] = found.target;
         if let Some(step) = step {
@@ -90,7 +91,7 @@ impl Settling {
         counter: Counter,
         last: Option<Target>,
         byte: bool,
-    ) -> Result<(), AllocError>
+    ) -> Result<(), Refused>
         requires { KnowsType (progress_of self.old) counter.owner }
         ensures { OnOk result (progress_of self.new
             ≡ completed (progress_of self.old) counter last byte) }
@@ -106,7 +107,7 @@ impl Settling {
     }
 
     /// Counts a part that has settled as found, and is u8 itself or not.
-    fn settle_part(&mut self, number: u32, found: Found, byte: bool) -> Result<(), AllocError>
+    fn settle_part(&mut self, number: u32, found: Found, byte: bool) -> Result<(), Refused>
         requires number { number < length self.old.counters.items }
         requires owner { KnowsType (progress_of self.old)
             (counter_at (progress_of self.old) number).owner }
@@ -131,7 +132,7 @@ impl Settling {
     }
 
     /// Counts what was found of a type at each reference to it.
-    fn propagate(&mut self, graph: &mut Graph, propagated: u32) -> Result<(), AllocError>
+    fn propagate(&mut self, graph: &mut Graph, propagated: u32) -> Result<(), Refused>
         requires { IsPending graph.old.registry graph.old (progress_of self.old) propagated }
         ensures propagates { OnOk result (Propagates graph.old.registry graph.old graph.new
             (progress_of self.old) (progress_of self.new) propagated) }
@@ -153,7 +154,7 @@ impl Settling {
 
     /// Counts what was found of the types that have settled at each reference to them, until
     /// nothing more settles. The first ones were counted before. Returns how many have settled.
-    fn propagate_all(&mut self, graph: &mut Graph, first: usize) -> Result<usize, AllocError>
+    fn propagate_all(&mut self, graph: &mut Graph, first: usize) -> Result<usize, Refused>
         requires { IsPropagatedTo graph.old.registry graph.old (progress_of self.old) first }
         ensures propagates { IfOk result (λ done. PropagatesAll graph.old.registry graph.old
             graph.new (progress_of self.old) (progress_of self.new) done) }
@@ -170,7 +171,7 @@ impl Settling {
 
     /// Settles the types without a part that must settle first, then each whose parts have. Returns
     /// how many have settled.
-    pub(crate) fn begin(&mut self, graph: &mut Graph) -> Result<usize, AllocError>
+    pub(crate) fn begin(&mut self, graph: &mut Graph) -> Result<usize, Refused>
         requires { IsStart graph.old.registry graph.old (progress_of self.old) }
         ensures propagates { IfOk result (λ done. PropagatesAll graph.old.registry graph.old
             graph.new (progress_of self.old) (progress_of self.new) done) }
@@ -191,7 +192,7 @@ impl Settling {
         &mut self,
         graph: &mut Graph,
         first: usize,
-    ) -> Result<usize, AllocError>
+    ) -> Result<usize, Refused>
         requires propagated { IsPropagatedTo graph.old.registry graph.old
             (progress_of self.old) first }
         requires bad { IsBad graph.old.registry (progress_of self.old) }

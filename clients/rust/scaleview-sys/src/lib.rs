@@ -70,6 +70,8 @@ pub const SCALEVIEW_REGISTRY_UNKNOWN_REFERENCE: u32 = 112;
 /// What follows the registry in metadata refers, at the place `at`, to the type `from`, which does
 /// not exist.
 pub const SCALEVIEW_METADATA_UNKNOWN_REFERENCE: u32 = 113;
+/// There are more types, references, names, fields or bytes of a name than numbers of 32 bits.
+pub const SCALEVIEW_REGISTRY_TOO_LARGE: u32 = 114;
 /// The registry has no type at this position.
 pub const SCALEVIEW_UNKNOWN_TYPE: u32 = 201;
 /// A limit is above 1024 for the depth, or above 2^40 for the bytes.

@@ -98,7 +98,7 @@ fn answer(words: &Words) -> Result<String, (String, u8)> {
     let told = |error: Error| {
         (
             format!("scaleview: {error}"),
-            if error == Error::Memory { 4 } else { 1 },
+            if matches!(error, Error::Memory | Error::TooLarge) { 4 } else { 1 },
         )
     };
     let open = |path| {

@@ -139,6 +139,8 @@ pub enum Error {
         /// Where the reference is, from the first byte of the metadata.
         place: u64,
     },
+    /// There are more types, references, names, fields or bytes of a name than numbers of 32 bits.
+    TooLarge,
     /// The metadata has no such name.
     UnknownName {
         /// The name as a whole, such as `storage:System.Account`.
@@ -234,6 +236,7 @@ impl Error {
                 to: TypeId::new(answer.from),
                 place: answer.at,
             },
+            sys::SCALEVIEW_REGISTRY_TOO_LARGE => Error::TooLarge,
             sys::SCALEVIEW_LIMIT_OUT_OF_RANGE => Error::LimitOutOfRange,
             code => Error::Library { code },
         }
@@ -294,6 +297,7 @@ impl fmt::Display for Error {
             }
             Error::NoBytes { name } => pad(f, format_args!("type: NoBytes {}", Quoted(name))),
             Error::UnknownType { id } => pad(f, format_args!("type: UnknownType {id}")),
+            Error::TooLarge => f.pad("registry: TooLarge"),
             Error::LimitOutOfRange => f.pad("limits: LimitOutOfRange"),
             Error::Value { reason, place } => pad(f, format_args!("value: {reason} at {place}")),
             Error::Node { reason, index } => pad(f, format_args!("node: {reason} at {index}")),

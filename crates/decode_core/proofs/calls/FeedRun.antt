@@ -3,6 +3,7 @@ use Rattle.std.proofs.Common.{◌≡◌, ℕ, ◌+◌, ◌-◌, ◌<◌, ◌≤�
 use Rattle.std.proofs.Common.{refl, sym, ap, subst, ◌∙◌, arith, inl, inr, length-append}
 use Rattle.std.proofs.Common.{length-drop}
 use Rattle.std.proofs.lemmas.List.{length-take}
+use Rattle.growth_core.specs.Evidence.{evidence}
 use Rattle.scale_core.specs.Number.{AreBytes}
 use Rattle.scale_core.specs.declared.fault.Reason.TheVariants as scale
 use Rattle.grammar_core.specs.Reading.{Refusal, basic}
@@ -98,21 +99,22 @@ run_refused j b piece slice s new limit taken k held reported_reason at len why 
 
 -- turns that end at an allocation failure lead to where it is wanted
 pub runs_out : (s new : Running) (slice : List ℕ) (k : ℕ) (why : Stopped) →
-    FeedReports s new slice k why → why ≡ stop.OutOfMemory → RunsOut s slice k
+    FeedReports s new slice k why → why ≡ stop.OutOfMemory evidence → RunsOut s slice k
 runs_out s new slice k why f is =
     let g = subst (FeedReports s new slice k) is f in (g.0, (g.1.0, g.1.1, g.1.2, g.1.4))
 
 -- turns that end so don't end with a whole value
-pub stops_otherwise : (r : ℕ × Stopped) → r ≡ (0, stop.Finished) → r.1 ≡ stop.OutOfMemory → ⊥
+pub stops_otherwise : (r : ℕ × Stopped) → r ≡ (0, stop.Finished) →
+    r.1 ≡ stop.OutOfMemory evidence → ⊥
 stops_otherwise r whole is =
-    let no : stop.OutOfMemory ≡ stop.Finished =
+    let no : (stop.OutOfMemory evidence) ≡ stop.Finished =
     sym is ∙ ap (λ (x : ℕ × Stopped). x.1) whole in absurd cc
 
 -- turns that end at an allocation failure end the decoder so, if its value was not whole
 pub run_short : (j : Query) (b piece slice : List ℕ) (s : Running) (limit taken k : ℕ) →
     j.bytes ≡ limit → slice ≡ take (limit - taken) piece → RunLed j b taken (Ok s) →
     (is_complete s.built ≡ true → ⊥) → RunsOut s slice k →
-    IsEnded j (b ++ piece) (record { reason = reason.OutOfMemory; at = 0 }) (taken + k)
+    IsEnded j (b ++ piece) (record { reason = reason.OutOfMemory evidence; at = 0 }) (taken + k)
 run_short j b piece slice s limit taken k e is (inr g) going f = absurd (going g.is_complete)
 run_short j b piece slice s limit taken k e is (inl g) going f =
     let same : slice ≡ offered j taken piece = is
@@ -121,7 +123,7 @@ run_short j b piece slice s limit taken k e is (inl g) going f =
     inl (refl, fed_short j b piece s at.1.0 taken k g at.0 at.1.1 at.1.2 at.1.3)
 
 -- no bytes are rejected as an allocation failure
-not_memory : (e : Refusal) → reason_of e ≡ reason.OutOfMemory → ⊥
+not_memory : (e : Refusal) → reason_of e ≡ reason.OutOfMemory evidence → ⊥
 not_memory (basic scale.Truncated) h = absurd cc
 not_memory (basic _) h = absurd cc
 not_memory _ h = absurd cc
@@ -129,7 +131,8 @@ not_memory _ h = absurd cc
 -- so turns that end with a refusal have another reason
 pub refused_has_bytes : (s new : Running) (slice : List ℕ) (k held : ℕ)
     (reported_reason : DecodeReason) (at len : ℕ) (why : Stopped) → FeedReports s new slice k why →
-    why ≡ stop.Refused held reported_reason at len → reported_reason ≡ reason.OutOfMemory → ⊥
+    why ≡ stop.Refused held reported_reason at len →
+    reported_reason ≡ reason.OutOfMemory evidence → ⊥
 refused_has_bytes s new slice k held reported_reason at len why f is h =
     let ends = (subst (FeedReports s new slice k) is f).1.2 in
     not_memory ends.0 (sym ends.3 ∙ h)

@@ -4,6 +4,7 @@ use Rattle.std.proofs.Common.{ap, subst, arith, inl, inr, length-drop}
 use Rattle.std.proofs.lemmas.List.{drop_all, length-take, take_rest}
 use Rattle.std.proofs.Math.Seq.{take-add}
 use Rattle.std.specs.Prelude.{Err, Ok, true}
+use Rattle.growth_core.specs.Evidence.{evidence}
 use Rattle.grammar_core.specs.declared.form.Form.{Form}
 use Rattle.value_core.specs.Refusals.{is_complete}
 use Rattle.machine_core.specs.Running.{Running}
@@ -121,12 +122,13 @@ whole_added b d piece at from to n k last e h =
 
 -- where it wanted memory, nothing changed
 pub whole_short : (b d : Running) (piece : List ℕ) (at from to n : ℕ) (last : Tried) →
-    last ≡ tried.OutOfMemory →
+    last ≡ tried.OutOfMemory evidence →
     WholeTurnsReport b d (take (length piece - at) (drop at piece)) from to n last →
-    TurnsReport b d (drop at piece) from to n (Err stop.OutOfMemory)
+    TurnsReport b d (drop at piece) from to n (Err (stop.OutOfMemory evidence))
 whole_short b d piece at from to n last e h =
-    let w = whole_of b d piece at from to n last tried.OutOfMemory e h in
-    turns_with b d d (drop at piece) from to n tried.OutOfMemory (Err stop.OutOfMemory) w
+    let w = whole_of b d piece at from to n last (tried.OutOfMemory evidence) e h in
+    turns_with b d d (drop at piece) from to n (tried.OutOfMemory evidence)
+    (Err (stop.OutOfMemory evidence)) w
     w.reports.0
     (ap (λ (s : Running). s.built.turns) w.reports.1)
     (λ is. let no = (w.whole is).2 in absurd cc)
@@ -309,8 +311,8 @@ call_counts a b d piece at start from to n (stop.Refused held reported_reason pl
     short a b d piece at start from to n
     (Err (stop.Refused held reported_reason place len))
     le h each few t t.kept
-call_counts a b d piece at start from to n stop.OutOfMemory le h each few t =
-    short a b d piece at start from to n (Err stop.OutOfMemory) le h each few t t.kept
+call_counts a b d piece at start from to n (stop.OutOfMemory _) le h each few t =
+    short a b d piece at start from to n (Err (stop.OutOfMemory evidence)) le h each few t t.kept
 
 -- ---- a value that was whole
 
@@ -336,7 +338,7 @@ call_whole a b d piece at from to n stop.Wants h t w =
     let no = (t.whole (stays_whole a b at h w)).2 in absurd cc
 call_whole a b d piece at from to n (stop.Refused held reported_reason place len) h t w =
     let no = (t.whole (stays_whole a b at h w)).2 in absurd cc
-call_whole a b d piece at from to n stop.OutOfMemory h t w =
+call_whole a b d piece at from to n (stop.OutOfMemory _) h t w =
     let no = (t.whole (stays_whole a b at h w)).2 in absurd cc
 
 -- ---- what a call tells

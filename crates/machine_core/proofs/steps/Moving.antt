@@ -137,7 +137,7 @@ pub turns_stop : (a b c : Running) (piece : List ℕ) (at : ℕ) (s : Stopped) �
     FeedReports a c piece at s
 turns_stop a b c piece at stop.Finished le h k sound = (le, (b, h, k.1, k.0, sound))
 turns_stop a b c piece at stop.Wants le h k sound = (le, (b, h, k.1, k.0, sound))
-turns_stop a b c piece at stop.OutOfMemory le h k sound = (le, (b, h, k, tt, sound))
+turns_stop a b c piece at (stop.OutOfMemory _) le h k sound = (le, (b, h, k, tt, sound))
 turns_stop a b c piece at (stop.Refused held reported_reason place len) le h k sound =
     (le, (b, h, k, tt, sound))
 

@@ -94,7 +94,7 @@ rest_reports b mid c new rest later result n some clean is h =
         rest_refused b c rest later k at len reason held (h later)
     by (Err stop.Finished) h = absurd h
     by (Err stop.Wants) h = absurd h
-    by (Err stop.OutOfMemory) h =
+    by (Err (stop.OutOfMemory _)) h =
         piece_wants b c (length rest) (rest ++ later) (length rest) n (omega arith)
         (omega (arith, length-append rest later)) some
         (ap (unused_in b.run) (take-append_seam rest later) ∙ clean)
@@ -111,7 +111,7 @@ end_reports old new piece (Err (stop.Refused held reason at len)) h =
     subst (λ (m : ℕ). EndsTurns old piece (stop.Refused m reason at len)) (omega arith) (h piece)
 end_reports old new piece (Err stop.Finished) h = absurd h
 end_reports old new piece (Err stop.Wants) h = absurd h
-end_reports old new piece (Err stop.OutOfMemory) h = h piece
+end_reports old new piece (Err (stop.OutOfMemory _)) h = h piece
 
 -- an open run lacks just these bytes, which hold no unused bit that is 1
 pub record RestComes (b : Built) (c rest : List ℕ) : Type 0 where

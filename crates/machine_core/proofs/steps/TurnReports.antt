@@ -134,7 +134,7 @@ node_running f b new c own (Ok u) h wants closed a k =
     taken_running f b new c own h wants closed a k
 node_running f b new c own (Err (fault.Refused reported_reason at)) h wants closed a k =
     rw k.1 (dropped b c h closed)
-node_running f b new c own (Err fault.OutOfMemory) h wants closed a k =
+node_running f b new c own (Err (fault.OutOfMemory _)) h wants closed a k =
     rw k.1 (dropped b c h closed)
 
 -- where held bytes and those of a piece refuse the next node, the turns end with that
@@ -182,7 +182,7 @@ node_reports f b new c bytes rest own (Ok u) wants some closed a is one k = (
 node_reports f b new c bytes rest own (Err (fault.Refused reported_reason at)) wants
     some closed a is
     one k = refused_reports b new c bytes rest own f reported_reason at wants some closed a is k.0
-node_reports f b new c bytes rest own (Err fault.OutOfMemory) wants some closed a is one k =
+node_reports f b new c bytes rest own (Err (fault.OutOfMemory _)) wants some closed a is one k =
     node_wants f b c bytes rest own wants closed is k.0
 
 -- ---- fewer bytes than the node needs

@@ -11,6 +11,7 @@ ghost use Rattle.registry_core.specs.Reading.{type_ids_at, option_at, byte_at};
 use super::lists::append;
 use super::read_stop::ReadStop;
 use crate::fault::RegistryReason;
+use growth_core::string_from;
 use scale_core::{Target, read_compact, read_text, read_u32};
 use std::alloc::Global;
 use types_core::{Items, Text, TypeId};
@@ -39,7 +40,7 @@ pub(crate) fn text_of(alloc: Global, bytes: &[u8]) -> Result<(Text, &[u8]), Read
 {
     match read_text(bytes) {
         Ok((text, len)) => {
-            let text = String::from_str(alloc, text)?;
+            let text = string_from(alloc, text)?;
             Ok((Text::from_string(text), &bytes[len..]))
         }
         Err(fault) => Err(ReadStop::at_fault(fault, bytes)),

@@ -4,8 +4,7 @@
 ghost use Rattle.std.specs.Prelude.{◌≡◌, ◌<◌, ◌≤◌, ◌+◌, ◌*◌, ◌++◌, ◌∷◌, [], is_ok, if◌then◌else◌};
 ghost use Rattle.std.specs.Prelude.{max, OnOk, vec_len, vec_capacity};
 
-use growth_core::make_room;
-use std::alloc::AllocError;
+use growth_core::{Refused, make_room_to_end};
 
 /// Appends the next element of a list that claims to have `count`.
 ///
@@ -14,9 +13,9 @@ use std::alloc::AllocError;
 ///
 /// # Errors
 ///
-/// `AllocError` if the allocation fails; the list keeps its elements.
+/// `Refused` if the allocation fails; the list keeps its elements.
 #[inline(always)]
-pub(crate) fn append<T: Drop>(list: &mut Vec<T>, count: u32, value: T) -> Result<(), AllocError>
+pub(crate) fn append<T: Drop>(list: &mut Vec<T>, count: u32, value: T) -> Result<(), Refused>
     ensures items { list.new.items
         ≡ (if is_ok result then list.old.items ++ value ∷ [] else list.old.items) }
     // The capacity is bounded by the elements that were read, and by the number that is claimed.
@@ -25,9 +24,8 @@ pub(crate) fn append<T: Drop>(list: &mut Vec<T>, count: u32, value: T) -> Result
     ensures claimed { vec_len list.old < count →
         vec_capacity list.new ≤ max (vec_capacity list.old) count }
 {
-    let len = list.len();
-    if list.capacity() <= len {
-        make_room(list, 1, Some((count as usize).saturating_sub(len)))?;
+    if list.capacity() <= list.len() {
+        make_room_to_end(list, count as usize)?;
     }
     list.push_reserved(value);
     Ok(())

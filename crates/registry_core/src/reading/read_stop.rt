@@ -6,14 +6,14 @@ ghost use Rattle.registry_core.specs.Reading.{registry_reason_of};
 ghost use Rattle.registry_core.specs.declared.reading.read_stop.ReadStop.TheVariants.{Memory};
 
 use crate::fault::{RegistryFault, RegistryReason};
+use growth_core::Refused;
 use scale_core::{Fault, Reason};
-use std::alloc::{AllocError, AllocFailed};
 
 /// The reason why a part was not read.
 #[derive(Drop)]
 pub(crate) enum ReadStop<'a> {
     /// An allocation failed.
-    Memory,
+    Memory(Refused),
     /// The first error, and the bytes from its place on.
     Fault(RegistryReason, &'a [u8]),
 }
@@ -53,8 +53,8 @@ impl<'a> ReadStop<'a> {
         ensures { result ≡ fault_of (length bytes.now) self.entry }
     {
         match self {
-            ReadStop::Memory => RegistryFault {
-                reason: RegistryReason::OutOfMemory,
+            ReadStop::Memory(refused) => RegistryFault {
+                reason: RegistryReason::OutOfMemory(refused),
                 at: 0,
             },
             ReadStop::Fault(reason, left) => RegistryFault {
@@ -65,18 +65,10 @@ impl<'a> ReadStop<'a> {
     }
 }
 
-impl From<AllocError> for ReadStop<'_> {
-    ghost from_gives = { λ _ stop. stop ≡ Memory };
+impl From<Refused> for ReadStop<'_> {
+    ghost from_gives = { λ refused stop. stop ≡ Memory refused };
 
-    fn from(_error: AllocError) -> Self {
-        ReadStop::Memory
-    }
-}
-
-impl<T: Drop> From<AllocFailed<T>> for ReadStop<'_> {
-    ghost from_gives = { λ _ stop. stop ≡ Memory };
-
-    fn from(_error: AllocFailed<T>) -> Self {
-        ReadStop::Memory
+    fn from(refused: Refused) -> Self {
+        ReadStop::Memory(refused)
     }
 }

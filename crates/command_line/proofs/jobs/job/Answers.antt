@@ -12,7 +12,7 @@ fault_of_words : (words : List Text) (sub : Option (Text × List Row)) (fault : 
     fault_of line words ≡ [] → sub ≡ subcommand_of line words → IsUsageIf (NamesNone sub) fault →
     IsFaultOfWords words fault
 fault_of_words words sub Usage taken is none = (taken, subst NamesNone is none)
-fault_of_words words sub Memory taken is none = tt
+fault_of_words words sub (Memory _) taken is none = tt
 fault_of_words words sub (Line error text) taken is none = absurd none
 
 pub returns-in-Ok-clause-err : goal.returns-in-Ok-clause-err

@@ -8,7 +8,7 @@ use Rattle.scale_calls.proofs.metadata.extended.Goals as goal
 pub from_types-requires : goal.from_types-requires
 from_types-requires c =
     let old = c.into_types-types.result.items in
-    let is : c.append.new.self.items ≡ old ++ c.args.more.items = search rules in
+    let is : c.append.new.list.items ≡ old ++ c.args.more.items = search rules in
     let few : length (old ++ c.args.more.items) < 2 ^ 32 =
     rw (length-append, c.into_types-types.ensures.same) c.requires.few in
     let P : List TypeInfo → Type 0 = FitsRegistry in

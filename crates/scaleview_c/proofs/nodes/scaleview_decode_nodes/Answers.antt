@@ -1,4 +1,5 @@
 use Rattle.std.proofs.Common.{◌≡◌, Some, Err, rules}
+use Rattle.growth_core.specs.Evidence.{evidence}
 use Rattle.scale_calls.specs.declared.refusal.ValueRefusal.TheVariants as value
 use Rattle.c_answers.specs.Codes.{plain}
 use Rattle.scaleview_c.specs.Nodes.{LeavesNodes}
@@ -16,6 +17,6 @@ returns-clause-nodes c = elim c.match-get.branch [
       let is : c.args.registry.value ≡ Some (held.Registry o) = search rules in
       let left : LeavesNodes (plain 3) c.args.nodes.now c.match-get.nodes c.args.pool.now
       c.match-get.pool c.match-get.answer = search rules in
-      rw is (Err value.Memory, tt, left)
+      rw is (Err (value.Memory evidence), tt, left)
   | in-Some-Session w ↦ search rules
 ]

@@ -1,4 +1,5 @@
 use Rattle.std.proofs.Common.{◌≡◌, Some, Err, rules}
+use Rattle.growth_core.specs.Evidence.{evidence}
 use Rattle.scale_calls.specs.declared.refusal.ValueRefusal.TheVariants as value
 use Rattle.scaleview_c.specs.Calls.{Leaves}
 use Rattle.c_answers.specs.Codes.{plain}
@@ -16,6 +17,6 @@ returns-clause-value c = elim c.match-get.branch [
       let is : c.args.registry.value ≡ Some (held.Registry o) = search rules in
       let left : Leaves c.args.out.now c.match-get.out (plain 3) c.match-get.answer = search rules
       in
-      rw is (Err value.Memory, tt, left)
+      rw is (Err (value.Memory evidence), tt, left)
   | in-Some-Session w ↦ search rules
 ]

@@ -13,7 +13,8 @@ returns-then-is_some c =
     sym (ap (option_map positions_of) (c.fields.invariant
     ∙ found_here c.args.fields.now c.fields.position c.index-fields-position.result
     c.as_str.result.now (lent_entries old) (omega arith) c.index-fields-position.is (search rules)
-    (sym (there_in_map c.as_str.result old c.in_ok-insert.field-0 c.in_ok-insert.ensures.old)
+    (sym (there_in_map c.as_str.result old c.in_ok-reported.field-0
+    (rw c.in_ok-reported.ensures.ok at c.insert.ensures.old))
     ∙ sym c.is_some.ensures ∙ c.if-is_some.true)))
 
 pub fields-preserved : goal.fields-preserved
@@ -23,9 +24,11 @@ fields-preserved c =
     c.fields.invariant
     ∙ new_here c.args.fields.now p c.index-fields-position.result c.as_str.result.now
     (lent_entries old) _ (omega arith) c.index-fields-position.is (search rules)
-    (sym (there_in_map c.as_str.result old c.in_ok-insert.field-0 c.in_ok-insert.ensures.old)
+    (sym (there_in_map c.as_str.result old c.in_ok-reported.field-0
+    (rw c.in_ok-reported.ensures.ok at c.insert.ensures.old))
     ∙ sym c.is_some.ensures ∙ c.if-is_some.false)
-    (put_in_map c.as_str.result p old c.insert.new.self.entries c.in_ok-insert.ensures.entries)
+    (put_in_map c.as_str.result p old c.insert.new.self.entries
+    (rw c.in_ok-reported.ensures.ok at c.insert.ensures.entries))
 
 pub returns : goal.returns
 returns c =

@@ -10,8 +10,10 @@ pub returns-in_err-settle_types-clause-refused : goal.returns-in_err-settle_type
 returns-in_err-settle_types-clause-refused c =
     let r = c.args.graph.now.registry in
     let linked = c.in_ok-read.ensures.linked.linked in
-    let is : c.from_residual-in_err-settle_types.result ≡ Err fault.OutOfMemory = search rules in
-    err_is c.from_residual-in_err-settle_types.result fault.OutOfMemory
+    let is : c.from_residual-in_err-settle_types.result
+    ≡ Err (fault.OutOfMemory c.in_err-settle_types.field-0.0) = search rules in
+    err_is c.from_residual-in_err-settle_types.result
+    (fault.OutOfMemory c.in_err-settle_types.field-0.0)
     (IsAnsweredFault r c.settle_types.new.graph) is (record {
       types = c.settle_types.ensures.lists.types ∙ linked.types;
       fault_is = (fault_is_first r).1

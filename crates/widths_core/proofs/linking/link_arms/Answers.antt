@@ -12,7 +12,7 @@ use Rattle.widths_core.proofs.Adding.{adds_begun}
 use Rattle.widths_core.proofs.ArmRules.{arms_none, arms_shadowed, arms_counted, next_arm_at}
 use Rattle.widths_core.proofs.ArmRules.{arm_some, arms_some}
 use Rattle.graph_core.proofs.Stopped.{stop_kept, stops_read}
-use Rattle.widths_core.proofs.Stopped.{stops_arms, stops_memory_after, stops_memory_is}
+use Rattle.widths_core.proofs.Stopped.{stops_arms, stops_memory_after, stops_short_is}
 use Rattle.widths_core.proofs.RowTo.{row_none, row_has, row_lacks, row_shadowed, row_counted}
 use Rattle.widths_core.proofs.RowTo.{row_all}
 use Rattle.widths_core.proofs.linking.link_arms.Goals as goal
@@ -153,9 +153,11 @@ returns-in_err-number-in-Err-clause-stops c =
     let m = c.next_arm.new.self in
     let k : BeginsArm b m c.unwrap-index.result.0 c.unwrap-index.result.1 =
     rw c.unwrap-index.ensures at c.next_arm.ensures in
-    let is : c.from_residual-in_err-number-in-Err.result ≡ Err stop.Memory = search rules in
-    stops_memory_is c.from_residual-in_err-number-in-Err.result _ c.args.graph.now
-    c.link_parts-in-Err.new.graph is
+    let is : c.from_residual-in_err-number-in-Err.result
+    ≡ Err (stop.TooMany c.in_err-number-in-Err.field-0.0) = search rules in
+    stops_short_is c.from_residual-in_err-number-in-Err.result
+    (stop.TooMany c.in_err-number-in-Err.field-0.0) _ c.args.graph.now
+    c.link_parts-in-Err.new.graph is tt
     (stops_memory_after c.args.graph.now b m c.link_parts-in-Err.new.graph _ _ _ _ _ _
     c.arms.invariant.0.adds.reads k c.in_ok-from-in-Err.ensures.adds.reads)
 
@@ -165,20 +167,26 @@ returns-in_err-insert-in-Err-clause-stops c =
     let m = c.next_arm.new.self in
     let k : BeginsArm b m c.unwrap-index.result.0 c.unwrap-index.result.1 =
     rw c.unwrap-index.ensures at c.next_arm.ensures in
-    let is : c.from_residual-in_err-insert-in-Err.result ≡ Err stop.Memory = search rules in
-    stops_memory_is c.from_residual-in_err-insert-in-Err.result _ c.args.graph.now
-    c.link_parts-in-Err.new.graph is
+    let is : c.from_residual-in_err-insert-in-Err.result
+    ≡ Err (stop.Memory c.in_err-insert-in-Err.field-0.0) = search rules in
+    stops_short_is c.from_residual-in_err-insert-in-Err.result
+    (stop.Memory c.in_err-insert-in-Err.field-0.0) _ c.args.graph.now
+    c.link_parts-in-Err.new.graph is tt
     (stops_memory_after c.args.graph.now b m c.link_parts-in-Err.new.graph _ _ _ _ _ _
     c.arms.invariant.0.adds.reads k c.in_ok-from-in-Err.ensures.adds.reads)
 
 pub returns-in_err-number-clause-stops : goal.returns-in_err-number-clause-stops
 returns-in_err-number-clause-stops c =
-    let is : c.from_residual-in_err-number.result ≡ Err stop.Memory = search rules in
-    stops_memory_is c.from_residual-in_err-number.result _ c.args.graph.now c.arms.graph is
+    let is : c.from_residual-in_err-number.result
+    ≡ Err (stop.TooMany c.in_err-number.field-0.0) = search rules in
+    stops_short_is c.from_residual-in_err-number.result
+    (stop.TooMany c.in_err-number.field-0.0) _ c.args.graph.now c.arms.graph is tt
     (stops_read c.args.graph.now c.arms.graph _ _ c.arms.invariant.0.adds.reads)
 
 pub returns-in_err-number-2-clause-stops : goal.returns-in_err-number-2-clause-stops
 returns-in_err-number-2-clause-stops c =
-    let is : c.from_residual-in_err-number-2.result ≡ Err stop.Memory = search rules in
-    stops_memory_is c.from_residual-in_err-number-2.result _ c.args.graph.now c.arms.graph is
+    let is : c.from_residual-in_err-number-2.result
+    ≡ Err (stop.TooMany c.in_err-number-2.field-0.0) = search rules in
+    stops_short_is c.from_residual-in_err-number-2.result
+    (stop.TooMany c.in_err-number-2.field-0.0) _ c.args.graph.now c.arms.graph is tt
     (stops_read c.args.graph.now c.arms.graph _ _ c.arms.invariant.0.adds.reads)

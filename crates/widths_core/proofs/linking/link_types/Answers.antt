@@ -38,7 +38,7 @@ types-preserved c =
     let read : refs n ≡ refs c.types.graph ++ all_parts (rules_of i k.0) = links.adds.reads.on.read
     ∙ ap (λ (xs : List ℕ). reverse xs ++ all_parts (rules_of i k.0))
     c.open-definition.ensures.opened.read in
-    let pushed : c.push.new.self.items ≡ c.types.steps.items ++ c.in-Ok.step ∷ [] =
+    let pushed : c.push.new.list.items ≡ c.types.steps.items ++ c.in-Ok.step ∷ [] =
     search rules in (
       types_linked_more r i k.0 c.types.counters.items c.link_definition.new.counters.items
           c.types.graph b n e h c.open-definition.ensures.opened links.adds,
@@ -81,5 +81,8 @@ returns-in_err-push-in-Ok-clause-refused c =
     let more = types_linked_more r i k.0 c.types.counters.items
     c.link_definition.new.counters.items c.types.graph b n e h c.open-definition.ensures.opened
     links.adds in
-    let is : c.from_residual-in_err-push-in-Ok.result ≡ Err fault.OutOfMemory = search rules in
-    err_is c.from_residual-in_err-push-in-Ok.result fault.OutOfMemory (IsRefusedFor r n) is more.way
+    let is : c.from_residual-in_err-push-in-Ok.result
+    ≡ Err (fault.OutOfMemory c.in_err-push-in-Ok.field-0.0) = search rules in
+    err_is c.from_residual-in_err-push-in-Ok.result
+    (fault.OutOfMemory c.in_err-push-in-Ok.field-0.0)
+    (IsRefusedFor r n) is more.way

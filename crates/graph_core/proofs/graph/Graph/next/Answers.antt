@@ -1,7 +1,7 @@
 use Rattle.std.proofs.Common.{◌≡◌, ◌<◌, ◌+◌, ◌∷◌, ◌++◌, [], List, ℕ, length, get_or, Some, refl, ap}
 use Rattle.std.proofs.Common.{◌∙◌}
 use Rattle.std.proofs.Common.{arith, rules}
-use Rattle.std.proofs.lemmas.List.{get_or_read, length_push}
+use Rattle.std.proofs.lemmas.List.{get_or_read}
 use Rattle.graph_core.specs.Graphs.{IsReadNext}
 use Rattle.graph_core.specs.declared.graph.Link.{Link}
 use Rattle.graph_core.proofs.Linked.{next_one}
@@ -23,18 +23,12 @@ returns-clause-reads c =
     let before : c.index-before.result.now ≡ get_or a.newest.items id 0 =
     rw e.lists.newest at read in
     let new : Link = record { counter = c.args.counter; before = c.index-before.result.now } in
-    let pushed : c.push-2.new.self.items ≡ m.links.items ++ new ∷ [] = search rules in
-    let members : c.push.new.self.items ≡ m.members.items ++ id ∷ [] = search rules in
+    let pushed : c.push-2.new.list.items ≡ m.links.items ++ new ∷ [] = search rules in
+    let members : c.push.new.list.items ≡ m.members.items ++ id ∷ [] = search rules in
+    let counted : c.in_ok-count.count ≡ length m.links.items + 1 = search rules in
     let small : length m.links.items < 4294967295 = search rules in
-    let count : c.len-2.result ≡ length a.links.items + 1 =
-    omega (
-      arith,
-      c.len-2.ensures,
-      c.push-2.new.self.ok.0,
-      ap length pushed,
-      length_push m.links.items new,
-      ap length e.lists.links,
-    ) in
+    let count : c.in_ok-count.count ≡ length a.links.items + 1 =
+    omega (arith, counted, ap length e.lists.links) in
     next_one a m _ id c.args.counter c.requires.linked e lt
     (omega (arith, ap length e.lists.links, small)) refl refl refl refl refl
     (rw (← e.lists.links, ← before) pushed)

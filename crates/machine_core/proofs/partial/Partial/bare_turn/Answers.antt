@@ -1,4 +1,5 @@
-use Rattle.std.proofs.Common.{ℕ, List, [], ap, inl, inr, subst}
+use Rattle.std.proofs.Common.{[], ap, subst}
+use Rattle.growth_core.specs.Evidence.{evidence}
 use Rattle.machine_core.specs.Running.{Running}
 use Rattle.machine_core.specs.Turned.{WholeReports}
 use Rattle.machine_core.specs.declared.turned.Tried.{Tried}
@@ -10,16 +11,9 @@ returns-in-Added-clause-reports g c = λ piece.
     (subst (λ (t : Tried). WholeReports c.args.self.now c.whole_bare.new.self piece t)
     c.in-Added.is (c.whole_bare.ensures.reports piece)).0
 
-pub returns-in-Untouched : goal.returns-in-Untouched
-returns-in-Untouched g c = elim c.in-Untouched.is [
-  | inl is ↦ absurd (c.whole_bare.ensures.taken is)
-  | inr is ↦
-      let wants : (piece : List ℕ) →
-      WholeReports c.args.self.now c.whole_bare.new.self piece tried.OutOfMemory =
-      λ piece. subst (λ (t : Tried). WholeReports c.args.self.now c.whole_bare.new.self piece t) is
-      (c.whole_bare.ensures.reports piece) in
-      record {
-        reports = λ piece. (wants piece).0;
-        kept = ap (λ (s : Running). s.built.turns) (wants []).1;
-      }
-]
+pub returns-in-OutOfMemory-clause-kept : goal.returns-in-OutOfMemory-clause-kept
+returns-in-OutOfMemory-clause-kept g c =
+    let wants : WholeReports c.args.self.now c.whole_bare.new.self [] (tried.OutOfMemory evidence) =
+    subst (λ (t : Tried). WholeReports c.args.self.now c.whole_bare.new.self [] t)
+    c.in-OutOfMemory.is (c.whole_bare.ensures.reports []) in
+    ap (λ (s : Running). s.built.turns) wants.1

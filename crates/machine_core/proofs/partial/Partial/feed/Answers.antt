@@ -1,4 +1,5 @@
 use Rattle.std.proofs.Common.{◌+◌, ◌-◌, length, take, drop, refl}
+use Rattle.growth_core.specs.Evidence.{evidence}
 use Rattle.machine_core.specs.declared.turned.Stopped.TheVariants as stop
 use Rattle.machine_core.proofs.steps.Calls.{call_nearer, call_on, left_so_far, tells_stopped}
 use Rattle.machine_core.proofs.steps.Calls.{tells_wants, whole_added, whole_left, whole_short}
@@ -37,7 +38,8 @@ pub returns-in-OutOfMemory : goal.returns-in-OutOfMemory
 returns-in-OutOfMemory g c =
     let w = c.whole_turns-before in
     tells_stopped c.args.self.now c.turns.self w.new.self c.args.piece.now c.turns.at
-    c.args.turns.now.so_far c.turns.turns.so_far w.new.turns.so_far w.result.0 stop.OutOfMemory
+    c.args.turns.now.so_far c.turns.turns.so_far w.new.turns.so_far w.result.0
+    (stop.OutOfMemory evidence)
     c.turns.invariant.so_far
     (whole_short c.turns.self w.new.self c.args.piece.now c.turns.at c.turns.turns.so_far
     w.new.turns.so_far w.result.0 w.result.1 c.in-OutOfMemory.is w.ensures)

@@ -1,4 +1,5 @@
 use Rattle.std.proofs.Common.{ℕ, ◌∙◌, IfSome, Ok, Option, ap, arith, subst}
+use Rattle.growth_core.specs.Evidence.{evidence}
 use Rattle.grammar_core.specs.declared.form.Form.TheVariants as form
 use Rattle.value_core.specs.Built.{Built}
 use Rattle.value_core.specs.Wrapped.{Wraps}
@@ -55,7 +56,7 @@ returns-in-Err g c =
     let at = at_node form.Fields c.self.view_is c.requires.next.next c.requires.next.closed in
     let spelled = fields_added b at.wants in
     one_turn c.args.self.now (of_fields c.add_wrapped.new.self k) piece c.args.turns.now.so_far
-    c.tick.new.self.so_far tried.OutOfMemory c.tick.ensures c.requires.next.sound (
+    c.tick.new.self.so_far (tried.OutOfMemory evidence) c.tick.ensures c.requires.next.sound (
       subst (λ (s : Running). WantsMemory s piece) c.self.view_is
           (bare_wants b k form.Fields c.self.invariant at.wants (λ no. no)
           at.closed (spelled.0, spelled.1) piece),

@@ -82,7 +82,7 @@ invariant_of-self-2 g c =
     let k = c.self.inside.carry in
     let end = open_of b k 0 c.args.self.now c.self.view_is c.requires.next c.requires.whole in
     let good : bad_text b.run ≡ None = search rules in
-    ended_running b c.close_run.new.self k end good c.in-Ok.ensures.ok
+    ended_running b c.close_run.new.self k end good c.in_default-close_run.ensures.ok
 
 pub returns-clause-reports : goal.returns-clause-reports
 returns-clause-reports g c =
@@ -92,10 +92,10 @@ returns-clause-reports g c =
     let good : bad_text b.run ≡ None = search rules in
     subst (λ (s : Running). EndReports s (of_fields c.close_run.new.self k) c.args.count
     (Ok c.args.count)) c.self.view_is
-    (ended_reports b c.close_run.new.self k end c.args.count good c.in-Ok.ensures.ok)
+    (ended_reports b c.close_run.new.self k end c.args.count good c.in_default-close_run.ensures.ok)
 
-pub returns-in_default-close_run-clause-reports : goal.returns-in_default-close_run-clause-reports
-returns-in_default-close_run-clause-reports g c =
+pub returns-in-Err-clause-reports : goal.returns-in-Err-clause-reports
+returns-in-Err-clause-reports g c =
     let b = c.self.inside.builder in
     let k = c.self.inside.carry in
     let end = open_of b k 0 c.args.self.now c.self.view_is c.requires.next c.requires.whole in

@@ -5,8 +5,8 @@ use Rattle.value_core.specs.Built.{unused_in}
 use Rattle.machine_core.specs.Running.{Running}
 use Rattle.machine_core.proofs.partial.Partial.run_piece.Goals as goal
 
-pub returns-in_default-clause-reports : goal.returns-in_default-clause-reports
-returns-in_default-clause-reports g c =
+pub returns-in-Err-clause-reports : goal.returns-in-Err-clause-reports
+returns-in-Err-clause-reports g c =
     let few : c.min-count.result ≤ c.args.missing = search rules in
     let there : c.min-count.result ≤ length c.args.piece.now = search rules in
     let some : 1 ≤ c.min-count.result =
@@ -29,5 +29,5 @@ invariant_of-self-2 g c =
     rw c.min-count.ensures (take_min c.args.missing piece) in
     let clean = subst (λ (s : Running). unused_in s.built.run (take c.args.missing piece) ≡ None)
     (sym c.self.view_is) c.requires.clean in
-    rw c.in-Ok.ensures.ok (piece_running b k c.args.missing (take c.min-count.result piece) n
+    rw c.in_default.ensures.ok (piece_running b k c.args.missing (take c.min-count.result piece) n
     c.self.invariant (ap (unused_in b.run) same ∙ clean))

@@ -33,13 +33,13 @@ returns-clause-reports g c =
     c.self.view_is
     (leaf_reports c.self.inside.builder c.add_element.new.self k (take count piece)
     (drop count piece) c.in-Some.leaf (carries_none c.self.view_is c.requires.empty) is
-    c.in-Ok.ensures.ok) in
+    c.in_default-add_element.ensures.ok) in
     rw (take-append-drop count piece, length-take-le count piece c.in-Some.ensures.within) at
     reports
 
-pub returns-in_default-add_element-clause-reports :
-    goal.returns-in_default-add_element-clause-reports
-returns-in_default-add_element-clause-reports g c =
+pub returns-in-Err-clause-reports :
+    goal.returns-in-Err-clause-reports
+returns-in-Err-clause-reports g c =
     let piece = c.args.piece.now in
     let count = c.in-Some.count in
     let k = c.self.inside.carry in
@@ -51,5 +51,5 @@ returns-in_default-add_element-clause-reports g c =
     (leaf_wants c.self.inside.builder k (take count piece) (drop count piece) c.in-Some.leaf
     (carries_none c.self.view_is c.requires.empty) is) in (
       rw (take-append-drop count piece) at wants,
-      ap (λ (x : Built). of_fields x k) c.in_default-add_element.ensures.err ∙ c.self.view_is,
+      ap (λ (x : Built). of_fields x k) c.in-Err.ensures.err ∙ c.self.view_is,
     )

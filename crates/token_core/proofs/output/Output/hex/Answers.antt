@@ -1,4 +1,4 @@
-use Rattle.std.proofs.Common.{◌≡◌, ◌+◌, ◌*◌, ◌∷◌, length, refl, ap, arith, rules}
+use Rattle.std.proofs.Common.{◌≡◌, ◌+◌, ◌*◌, ◌-◌, ◌^◌, ◌∷◌, min, length, refl, ap, arith, rules}
 use Rattle.hex.specs.Hex.{encode_lower}
 use Rattle.json.specs.Token.{string}
 use Rattle.json.proofs.Printed.Places.{Placed-then}
@@ -7,14 +7,13 @@ use Rattle.token_core.proofs.output.Output.hex.Goals as goal
 
 pub place_hex_text-self-inside-requires : goal.place_hex_text-self-inside-requires
 place_hex_text-self-inside-requires g c =
-    let digits : c.in-Some.digits ≡ 2 * length c.args.bytes.now = search rules in
-    let room : c.in-Some-checked_add.room ≡ c.in-Some.digits + 5 = search rules in
+    let room : c.saturating_add-room.result ≡ min (2 * length c.args.bytes.now + 5) (2 ^ 64 - 1) =
+    search rules in
     omega (
       arith,
       c.in_ok-ensure_bytes.ensures.ok,
       c.place_comma-at.ensures.moved,
       comma_short c.self.inside.after_value,
-      digits,
       room,
       c.place_comma-at.ensures.len,
       ap length c.as_mut_slice-buffer.ensures.value,
