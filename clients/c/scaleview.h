@@ -8,15 +8,10 @@
  *   anything else that it is given. No call keeps a pointer to bytes.
  * - A handle is null or was set by a call. A null handle, or one of the other kind, is answered by SCALEVIEW_NO_HANDLE. A
  *   copy of a closed or freed handle can't be recognised, and must not be used.
- * - A handle may be used on any thread. scaleview_types, scaleview_type_line, scaleview_type, scaleview_part, scaleview_arm,
- *   scaleview_arm_field, scaleview_path, scaleview_find, scaleview_name, scaleview_name_at, scaleview_name_bytes,
- *   scaleview_decode, scaleview_decode_nodes and scaleview_encode_nodes only read a registry: any number of threads may make
- *   them on one registry at the same time.
- * - A session is used by one call at a time. scaleview_feed, scaleview_taken, scaleview_nodes, scaleview_text_bytes,
- *   scaleview_finish and scaleview_finish_nodes change that session alone, so other calls on its registry and on other
- *   sessions may run at the same time.
- * - scaleview_start and scaleview_free also change the count of sessions that a registry keeps without a lock: of these two,
- *   one call at a time may run on a registry and its sessions. No other call on them may run during scaleview_close.
+ * - A handle may be used on any thread. Any number of threads may make calls on one registry at the same time, and start and
+ *   free sessions of it: the registry counts its sessions by an atomic number. Only during scaleview_close no other call may
+ *   run on the registry or on a session of it.
+ * - A session is used by one call at a time. Calls on different sessions may run at the same time.
  *
  * Places and lengths are in bytes.
  *
@@ -288,6 +283,37 @@ uint32_t scaleview_arm(scaleview_registry registry, uint32_t type, uint32_t arm,
  * returns SCALEVIEW_UNKNOWN_PART if the type is no variant, or has no such arm, or the arm no such field. */
 uint32_t scaleview_arm_field(scaleview_registry registry, uint32_t type, uint32_t arm, uint32_t field, uint8_t *out,
                              size_t room, scaleview_answer *answer);
+
+/* Stands for no position of an arm or of a field. */
+#define SCALEVIEW_NONE UINT32_MAX
+
+/* Reports the parameter at the position `param` of a generic type: `answer->from` is the type that stands for it,
+ * `answer->at` is 1 if there is one and otherwise 0, and `answer->length` is the number of bytes of the parameter's name. The
+ * name is written to the front of `out`: UTF-8, without a terminating 0.
+ *
+ * After SCALEVIEW_NO_ROOM the numbers are the same, and `out` is unchanged. Otherwise the call returns
+ * SCALEVIEW_UNKNOWN_TYPE, SCALEVIEW_NO_HANDLE, or SCALEVIEW_UNKNOWN_PART if the type has no more parameters, and `out` is
+ * unchanged. A type that stands for a parameter need not be one of the registry's. */
+uint32_t scaleview_param(scaleview_registry registry, uint32_t type, uint32_t param, uint8_t *out, size_t room,
+                         scaleview_answer *answer);
+
+/* Writes the name of a field's type, as the source has it, to the front of `out`: UTF-8 of `answer->length` bytes, without a
+ * terminating 0. `answer->at` is 1 if the registry has it and otherwise 0. `arm` is the position of a variant's arm, or
+ * SCALEVIEW_NONE for a field of a composite.
+ *
+ * After SCALEVIEW_NO_ROOM the numbers are the same, and `out` is unchanged. Otherwise the call returns
+ * SCALEVIEW_UNKNOWN_TYPE, SCALEVIEW_NO_HANDLE, or SCALEVIEW_UNKNOWN_PART if there is no such field, and `out` is unchanged. */
+uint32_t scaleview_type_name(scaleview_registry registry, uint32_t type, uint32_t arm, uint32_t field, uint8_t *out,
+                             size_t room, scaleview_answer *answer);
+
+/* Writes the line at the position `line` of a documentation to the front of `out`: UTF-8 of `answer->length` bytes, without
+ * a terminating 0. With SCALEVIEW_NONE for both `arm` and `field` it is the type's, with SCALEVIEW_NONE for `field` that of the
+ * arm at the position `arm`, with SCALEVIEW_NONE for `arm` that of a composite's field, and otherwise that of an arm's field.
+ *
+ * After SCALEVIEW_NO_ROOM the length is the same, and `out` is unchanged. Otherwise the call returns SCALEVIEW_UNKNOWN_TYPE,
+ * SCALEVIEW_NO_HANDLE, or SCALEVIEW_UNKNOWN_PART if there is no such part or it has no more lines, and `out` is unchanged. */
+uint32_t scaleview_docs(scaleview_registry registry, uint32_t type, uint32_t arm, uint32_t field, uint32_t line, uint8_t *out,
+                        size_t room, scaleview_answer *answer);
 
 /* Writes the path of the registry's type at this position to the front of `out`, its segments joined by "::". It is UTF-8 of
  * `answer->length` bytes, without a terminating 0; a type without a path has no byte.

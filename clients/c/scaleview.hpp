@@ -318,6 +318,12 @@ class session {
     scaleview_session handle_ = {nullptr};
 };
 
+/* A parameter of a generic type, and the type that stands for it, if there is one. */
+struct param {
+    std::string name;
+    std::optional<std::uint32_t> type;
+};
+
 /* An open registry. It may be moved, and is not copied. Its sessions keep it open. */
 class registry {
   public:
@@ -377,6 +383,41 @@ class registry {
             found.fields = fields_of(found, id, found.shape.parts, [&](std::uint32_t i, auto out, auto room, auto answer) {
                 return scaleview_part(handle(), id, i, out, room, answer);
             });
+        }
+        return found;
+    }
+
+    /* The parameters of a generic type. */
+    std::vector<param> params(std::uint32_t id) const {
+        std::vector<param> found;
+        scaleview_answer answer;
+        for (std::uint32_t i = 0; scaleview_param(handle(), id, i, nullptr, 0, &answer) != SCALEVIEW_UNKNOWN_PART; i++) {
+            auto [name, last] = named(id, [&](auto out, auto room, auto to) {
+                return scaleview_param(handle(), id, i, out, room, to);
+            });
+            found.push_back({std::move(name), last.at == 1 ? std::optional(last.from) : std::nullopt});
+        }
+        return found;
+    }
+
+    /* The name of a field's type as the source has it, if the registry has it. Without an arm, the field is a composite's. */
+    std::optional<std::string> type_name(std::uint32_t id, std::uint32_t field, std::uint32_t arm = SCALEVIEW_NONE) const {
+        auto [name, answer] = named(id, [&](auto out, auto room, auto to) {
+            return scaleview_type_name(handle(), id, arm, field, out, room, to);
+        });
+        return answer.at == 1 ? std::optional(std::move(name)) : std::nullopt;
+    }
+
+    /* The lines of the documentation of a type, or of a field or an arm of it. */
+    std::vector<std::string> docs(std::uint32_t id, std::uint32_t field = SCALEVIEW_NONE,
+                                  std::uint32_t arm = SCALEVIEW_NONE) const {
+        std::vector<std::string> found;
+        scaleview_answer answer;
+        for (std::uint32_t i = 0;
+             scaleview_docs(handle(), id, arm, field, i, nullptr, 0, &answer) != SCALEVIEW_UNKNOWN_PART; i++) {
+            found.push_back(text_of(id, [&](auto out, auto room, auto to) {
+                return scaleview_docs(handle(), id, arm, field, i, out, room, to);
+            }));
         }
         return found;
     }

@@ -15,8 +15,6 @@ static scaleview_registry registry;
 static uint32_t type;
 static long times;
 static pthread_barrier_t begun;
-/* Held while a session is started or freed. */
-static pthread_mutex_t counting = PTHREAD_MUTEX_INITIALIZER;
 
 /* What is made of the value. */
 struct made {
@@ -42,18 +40,13 @@ static size_t read_file(const char *path, uint8_t *to) {
 static bool feed(struct made *made) {
     scaleview_session session = {NULL};
     scaleview_answer answer;
-    pthread_mutex_lock(&counting);
-    uint32_t code = scaleview_start(registry, type, 64, 1 << 24, 0, &session, &answer);
-    pthread_mutex_unlock(&counting);
-    if (code != SCALEVIEW_OK) return false;
+    if (scaleview_start(registry, type, 64, 1 << 24, 0, &session, &answer) != SCALEVIEW_OK) return false;
     for (size_t at = 0; at < value_length; at += 3)
         scaleview_feed(&session, value + at, value_length - at < 3 ? value_length - at : 3, &answer);
     scaleview_taken(&session, &answer);
     bool is_so = answer.length == value_length;
     scaleview_finish_nodes(&session, made->session_nodes, NODE_ROOM, made->session_pool, TEXT_ROOM, &made->of_session);
-    pthread_mutex_lock(&counting);
     is_so = scaleview_free(&session) == SCALEVIEW_OK && is_so;
-    pthread_mutex_unlock(&counting);
     return is_so && made->of_session.code == SCALEVIEW_OK && made->of_session.length == made->of_nodes.length &&
            made->of_session.at == made->of_nodes.at &&
            !memcmp(made->session_nodes, made->nodes, (size_t)made->of_nodes.length * sizeof *made->nodes) &&

@@ -135,6 +135,99 @@ static void check_paths(scaleview_registry registry) {
     }
 }
 
+static const uint8_t annotated_bytes[] = {
+    0x0c,
+    /* 0: W<T = 1, U> { x: 1 as T, 1 } */
+    0x00, 0x04, 0x04, 'W', 0x08, 0x04, 'T', 0x01, 0x04, 0x04, 'U', 0x00, 0x00, 0x08,
+    0x01, 0x04, 'x', 0x04, 0x01, 0x04, 'T', 0x04, 0x10, 'o', 'f', ' ', 'x', 0x00, 0x04, 0x00, 0x00,
+    0x08, 0x0c, 'o', 'n', 'e', 0x00,
+    /* 1: A(2 as u8) */
+    0x04, 0x00, 0x00, 0x01, 0x04, 0x04, 'A', 0x04, 0x00, 0x08, 0x01, 0x08, 'u', '8', 0x08, 0x04, 'f', 0x04, 'g',
+    0x00, 0x04, 0x18, 'a', 'n', ' ', 'a', 'r', 'm', 0x00,
+    /* 2: u8 */
+    0x08, 0x00, 0x00, 0x05, 0x03, 0x00,
+};
+
+static void check_params(scaleview_registry registry) {
+    scaleview_answer answer;
+    uint8_t out[8] = "????????";
+    check("a parameter", scaleview_param(registry, 0, 0, out, sizeof out, &answer) == SCALEVIEW_OK);
+    check("its numbers", is_answer(answer, SCALEVIEW_OK, 1, 1, 1) && !memcmp(out, "T?", 2));
+    check("no room", scaleview_param(registry, 0, 1, out, 0, &answer) == SCALEVIEW_NO_ROOM);
+    check("the same numbers", is_answer(answer, SCALEVIEW_NO_ROOM, 0, 0, 1) && out[0] == 'T');
+    check("one without a type", scaleview_param(registry, 0, 1, out, sizeof out, &answer) == SCALEVIEW_OK && out[0] == 'U');
+    check("no more", scaleview_param(registry, 0, 2, out, sizeof out, &answer) == SCALEVIEW_UNKNOWN_PART);
+    check("of no type", scaleview_param(registry, 3, 0, out, sizeof out, &answer) == SCALEVIEW_UNKNOWN_TYPE);
+}
+
+/* The name of a field's type, or the code that says why there is none. */
+static void check_type_names(scaleview_registry registry) {
+    static const struct {
+        uint32_t type, arm, field, code;
+        uint64_t at;
+        const char *name;
+    } names[] = {
+        {0, SCALEVIEW_NONE, 0, SCALEVIEW_OK, 1, "T"},  {0, SCALEVIEW_NONE, 1, SCALEVIEW_OK, 0, ""},
+        {1, 0, 0, SCALEVIEW_OK, 1, "u8"},              {0, SCALEVIEW_NONE, 2, SCALEVIEW_UNKNOWN_PART, 0, ""},
+        {0, 0, 0, SCALEVIEW_UNKNOWN_PART, 0, ""},      {1, SCALEVIEW_NONE, 0, SCALEVIEW_UNKNOWN_PART, 0, ""},
+        {1, 0, 1, SCALEVIEW_UNKNOWN_PART, 0, ""},      {1, 1, 0, SCALEVIEW_UNKNOWN_PART, 0, ""},
+        {1, 0, SCALEVIEW_NONE, SCALEVIEW_UNKNOWN_PART, 0, ""},
+        {2, SCALEVIEW_NONE, SCALEVIEW_NONE, SCALEVIEW_UNKNOWN_PART, 0, ""},
+        {3, SCALEVIEW_NONE, 0, SCALEVIEW_UNKNOWN_TYPE, 0, ""},
+    };
+    scaleview_answer answer;
+    uint8_t out[8];
+    for (size_t i = 0; i < sizeof names / sizeof *names; i++) {
+        uint64_t length = strlen(names[i].name);
+        uint32_t code = scaleview_type_name(registry, names[i].type, names[i].arm, names[i].field, out, sizeof out, &answer);
+        check("a type's name", code == names[i].code && is_answer(answer, code, 0, names[i].at, length));
+        check("its bytes", !memcmp(out, names[i].name, length));
+    }
+}
+
+/* A line of documentation, or the code that says why there is none. */
+static void check_docs(scaleview_registry registry) {
+    static const struct {
+        uint32_t type, arm, field, line, code;
+        const char *text;
+    } lines[] = {
+        {0, SCALEVIEW_NONE, SCALEVIEW_NONE, 0, SCALEVIEW_OK, "one"},
+        {0, SCALEVIEW_NONE, SCALEVIEW_NONE, 1, SCALEVIEW_OK, ""},
+        {0, SCALEVIEW_NONE, SCALEVIEW_NONE, 2, SCALEVIEW_UNKNOWN_PART, ""},
+        {0, SCALEVIEW_NONE, 0, 0, SCALEVIEW_OK, "of x"},
+        {0, SCALEVIEW_NONE, 1, 0, SCALEVIEW_UNKNOWN_PART, ""},
+        {0, 0, SCALEVIEW_NONE, 0, SCALEVIEW_UNKNOWN_PART, ""},
+        {1, 0, SCALEVIEW_NONE, 0, SCALEVIEW_OK, "an arm"},
+        {1, 0, 0, 1, SCALEVIEW_OK, "g"},
+        {1, 0, 0, 2, SCALEVIEW_UNKNOWN_PART, ""},
+        {1, SCALEVIEW_NONE, 0, 0, SCALEVIEW_UNKNOWN_PART, ""},
+        {2, SCALEVIEW_NONE, SCALEVIEW_NONE, 0, SCALEVIEW_UNKNOWN_PART, ""},
+        {3, SCALEVIEW_NONE, SCALEVIEW_NONE, 0, SCALEVIEW_UNKNOWN_TYPE, ""},
+    };
+    scaleview_answer answer;
+    uint8_t out[8];
+    for (size_t i = 0; i < sizeof lines / sizeof *lines; i++) {
+        uint64_t length = strlen(lines[i].text);
+        uint32_t code = scaleview_docs(registry, lines[i].type, lines[i].arm, lines[i].field, lines[i].line, out, sizeof out,
+                                       &answer);
+        check("a line", code == lines[i].code && is_answer(answer, code, 0, 0, length));
+        check("its bytes", !memcmp(out, lines[i].text, length));
+    }
+    check("no room", scaleview_docs(registry, 1, 0, SCALEVIEW_NONE, 0, out, 5, &answer) == SCALEVIEW_NO_ROOM);
+    check("its length", is_answer(answer, SCALEVIEW_NO_ROOM, 0, 0, 6));
+}
+
+static void check_annotations(void) {
+    scaleview_registry registry = {NULL};
+    scaleview_answer answer;
+    uint32_t code = scaleview_open(annotated_bytes, sizeof annotated_bytes, 0, &registry, &answer);
+    check("annotated", code == SCALEVIEW_OK && answer.length == 3);
+    check_params(registry);
+    check_type_names(registry);
+    check_docs(registry);
+    check("closed", scaleview_close(&registry) == SCALEVIEW_OK);
+}
+
 static void check_null(void) {
     scaleview_registry registry = {NULL};
     scaleview_type_shape shape;
@@ -144,6 +237,9 @@ static void check_null(void) {
     check("a part of null", scaleview_part(registry, 0, 0, out, 1, &answer) == SCALEVIEW_NO_HANDLE);
     check("an arm of null", scaleview_arm(registry, 0, 0, out, 1, &answer) == SCALEVIEW_NO_HANDLE);
     check("a field of null", scaleview_arm_field(registry, 0, 0, 0, out, 1, &answer) == SCALEVIEW_NO_HANDLE);
+    check("a parameter of null", scaleview_param(registry, 0, 0, out, 1, &answer) == SCALEVIEW_NO_HANDLE);
+    check("a type's name of null", scaleview_type_name(registry, 0, 0, 0, out, 1, &answer) == SCALEVIEW_NO_HANDLE);
+    check("docs of null", scaleview_docs(registry, 0, 0, 0, 0, out, 1, &answer) == SCALEVIEW_NO_HANDLE);
     check("a path of null", scaleview_path(registry, 0, out, 1, &answer) == SCALEVIEW_NO_HANDLE);
     check("a search in null", scaleview_find(registry, 0, out, 0, &answer) == SCALEVIEW_NO_HANDLE);
 }
@@ -162,6 +258,7 @@ int main(void) {
     check_arms(registry);
     check_paths(registry);
     check("closed", scaleview_close(&registry) == SCALEVIEW_OK);
+    check_annotations();
     check_null();
     check_name();
     return failures > 0;

@@ -80,6 +80,20 @@ static void check_arms(const scaleview::registry &registry) {
     check("no such path", !registry.find("no::such"));
 }
 
+/* What a registry says of a type for its readers: W<T = 0, U> { x: 0 as T }, with a line for the type and one for the field. */
+static void check_annotations() {
+    static const std::uint8_t types[] = {4, 0, 4, 4, 'W', 8, 4, 'T', 1, 0, 4, 'U', 0, 0, 4, 1, 4, 'x', 0, 1, 4, 'T', 4, 4, 'f',
+                                         4, 4, 't'};
+    const auto registry = scaleview::registry::open(scaleview::bytes_view(types, sizeof types));
+    const auto params = registry.params(0);
+    check("its parameters", params.size() == 2 && params.at(0).name == "T" && params.at(0).type == 0u);
+    check("one without a type", params.at(1).name == "U" && !params.at(1).type);
+    check("the name of a type", registry.type_name(0, 0) == "T");
+    check("docs", registry.docs(0) == std::vector<std::string>{"t"} && registry.docs(0, 0) == std::vector<std::string>{"f"});
+    check("no field", thrown([&] { registry.type_name(0, 1); }, 0) == "code 203 UnknownPart");
+    check("no type", thrown([&] { registry.params(1); }, 1) == "type: UnknownType 1");
+}
+
 /* A text, and a registry that outlives its handle by a session. */
 static void check_small() {
     static const std::uint8_t text[] = {4, 0, 0, 0, 5, 2, 0};
@@ -209,6 +223,7 @@ int main(int count, char **words) {
     check_value(registry, *type, bytes, json);
     check_fields(registry, *type, registry.decode(*type, bytes));
     check_arms(registry);
+    check_annotations();
     check_small();
     check_budgets();
     check_bits();

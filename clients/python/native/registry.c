@@ -187,6 +187,33 @@ static PyObject *registry_line(PyObject *self, PyObject *number) {
     return describe(self, number, line_of);
 }
 
+static PyObject *registry_params(PyObject *self, PyObject *number) {
+    return describe(self, number, params_list);
+}
+
+/* Reads a type's number and the positions of a part of it, and returns what a function reports about that. */
+static PyObject *describe_part(PyObject *self, PyObject *args,
+                               PyObject *(*report)(struct shared *, uint32_t, uint32_t, uint32_t)) {
+    PyObject *number;
+    unsigned long arm = SCALEVIEW_NONE, part = SCALEVIEW_NONE;
+    uint32_t type;
+    if (!PyArg_ParseTuple(args, "O|kk", &number, &arm, &part)) return NULL;
+    struct shared *shared = shared_of(self);
+    if (!shared) return NULL;
+    int code = read_type(shared->state, self, number, &type);
+    PyObject *made = code == 0 ? report(shared, type, (uint32_t)arm, (uint32_t)part) : NULL;
+    release(shared);
+    return made;
+}
+
+static PyObject *registry_docs(PyObject *self, PyObject *args) {
+    return describe_part(self, args, docs_list);
+}
+
+static PyObject *registry_type_name(PyObject *self, PyObject *args) {
+    return describe_part(self, args, type_name_of);
+}
+
 static PyObject *registry_find(PyObject *self, PyObject *args) {
     PyObject *path;
     unsigned long from = 0;
@@ -331,6 +358,9 @@ static PyMethodDef methods[] = {
     {"_arms", registry_arms, METH_O, NULL},
     {"_path", registry_path, METH_O, NULL},
     {"_line", registry_line, METH_O, NULL},
+    {"_params", registry_params, METH_O, NULL},
+    {"_docs", registry_docs, METH_VARARGS, NULL},
+    {"_type_name", registry_type_name, METH_VARARGS, NULL},
     {"_find", registry_find, METH_VARARGS, NULL},
     {"_name", registry_name, METH_VARARGS, NULL},
     {"_name_at", registry_name_at, METH_O, NULL},

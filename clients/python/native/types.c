@@ -24,6 +24,8 @@ struct text_of {
     uint32_t (*read)(const struct text_of *text, uint8_t *out, size_t room, scaleview_answer *answer);
     struct shared *shared;
     uint32_t type, arm, part;
+    uint32_t line; /* of a documentation */
+    bool may_lack; /* there need not be such a part */
 };
 
 static uint32_t read_part(const struct text_of *text, uint8_t *out, size_t room, scaleview_answer *answer) {
@@ -46,7 +48,19 @@ static uint32_t read_line(const struct text_of *text, uint8_t *out, size_t room,
     return scaleview_type_line(text->shared->registry, text->type, out, room, answer);
 }
 
-/* Returns a text, and what else the call reports in `answer`. */
+static uint32_t read_param(const struct text_of *text, uint8_t *out, size_t room, scaleview_answer *answer) {
+    return scaleview_param(text->shared->registry, text->type, text->part, out, room, answer);
+}
+
+static uint32_t read_type_name(const struct text_of *text, uint8_t *out, size_t room, scaleview_answer *answer) {
+    return scaleview_type_name(text->shared->registry, text->type, text->arm, text->part, out, room, answer);
+}
+
+static uint32_t read_docs_line(const struct text_of *text, uint8_t *out, size_t room, scaleview_answer *answer) {
+    return scaleview_docs(text->shared->registry, text->type, text->arm, text->part, text->line, out, room, answer);
+}
+
+/* Returns a text, and what else the call reports in `answer`. NULL without an exception is a part that may lack and does. */
 static PyObject *read_text(const struct text_of *text, scaleview_answer *answer) {
     uint8_t few[SHORT_TEXT], *out = few, *many = NULL;
     size_t room = sizeof few;
@@ -63,7 +77,7 @@ static PyObject *read_text(const struct text_of *text, scaleview_answer *answer)
     }
     if (answer->code == SCALEVIEW_OK)
         made = PyUnicode_FromStringAndSize((const char *)out, (Py_ssize_t)answer->length);
-    else
+    else if (!text->may_lack || answer->code != SCALEVIEW_UNKNOWN_PART)
         raise_answer(text->shared->state, answer, text->type, -1, 0);
     free(many);
     bool is_interned = text->shared->state->interns && answer->length <= INTERNED;
@@ -157,7 +171,7 @@ static int read_arms(struct shared *shared, uint32_t type, struct type_info *inf
     for (uint32_t i = 0; i < info->shape.parts; i++) {
         scaleview_answer answer;
         struct arm *arm = &info->arms[i];
-        struct text_of text = {read_arm, shared, type, i, 0};
+        struct text_of text = {read_arm, shared, type, i, 0, 0, false};
         arm->name = read_text(&text, &answer);
         if (!arm->name) return -1;
         arm->index = answer.from;
@@ -189,7 +203,7 @@ static int read_target(struct shared *shared, struct type_info *info) {
             return 0;
         }
         if ((shape.kind != SCALEVIEW_COMPOSITE && shape.kind != SCALEVIEW_TUPLE) || shape.parts != 1) break;
-        struct text_of text = {read_part, shared, type, 0, 0};
+        struct text_of text = {read_part, shared, type, 0, 0, 0, false};
         PyObject *name = read_text(&text, &answer);
         Py_XDECREF(name);
         if (!name) return -1;
@@ -237,7 +251,7 @@ static int read_info(struct shared *shared, uint32_t type, struct type_info *inf
     switch (info->shape.kind) {
     case SCALEVIEW_COMPOSITE:
     case SCALEVIEW_TUPLE:
-        return read_fields((struct text_of){read_part, shared, type, 0, 0}, info->shape.parts, &info->fields);
+        return read_fields((struct text_of){read_part, shared, type, 0, 0, 0, false}, info->shape.parts, &info->fields);
     case SCALEVIEW_VARIANT: return read_arms(shared, type, info);
     case SCALEVIEW_COMPACT: return read_target(shared, info);
     case SCALEVIEW_BIT_SEQUENCE: return read_bit_form(shared, info);
@@ -309,12 +323,50 @@ PyObject *arms_list(struct shared *shared, uint32_t type) {
 
 PyObject *path_of(struct shared *shared, uint32_t type) {
     scaleview_answer answer;
-    return read_text(&(struct text_of){read_path, shared, type, 0, 0}, &answer);
+    return read_text(&(struct text_of){read_path, shared, type, 0, 0, 0, false}, &answer);
 }
 
 PyObject *line_of(struct shared *shared, uint32_t type) {
     scaleview_answer answer;
-    return read_text(&(struct text_of){read_line, shared, type, 0, 0}, &answer);
+    return read_text(&(struct text_of){read_line, shared, type, 0, 0, 0, false}, &answer);
+}
+
+/* Appends what it takes over to a list, or clears the list. */
+static void append_new(PyObject **list, PyObject *made) {
+    if (!made || PyList_Append(*list, made) < 0) Py_CLEAR(*list);
+    Py_XDECREF(made);
+}
+
+/* The parameters of a type: [(name, type or None), ..]. */
+PyObject *params_list(struct shared *shared, uint32_t type) {
+    struct text_of text = {read_param, shared, type, 0, 0, 0, true};
+    PyObject *list = PyList_New(0), *name;
+    scaleview_answer answer;
+    for (; list && (name = read_text(&text, &answer)); text.part++) {
+        PyObject *argument = answer.at == 1 ? PyLong_FromUnsignedLong(answer.from) : new_ref(Py_None);
+        append_new(&list, Py_BuildValue("(NN)", name, argument));
+    }
+    if (PyErr_Occurred()) Py_CLEAR(list);
+    return list;
+}
+
+/* The lines of the documentation of a type or of a part of it. */
+PyObject *docs_list(struct shared *shared, uint32_t type, uint32_t arm, uint32_t part) {
+    struct text_of text = {read_docs_line, shared, type, arm, part, 0, true};
+    PyObject *list = PyList_New(0), *line;
+    scaleview_answer answer;
+    for (; list && (line = read_text(&text, &answer)); text.line++) append_new(&list, line);
+    if (PyErr_Occurred()) Py_CLEAR(list);
+    return list;
+}
+
+/* The name of a field's type as the source has it, or None. */
+PyObject *type_name_of(struct shared *shared, uint32_t type, uint32_t arm, uint32_t part) {
+    scaleview_answer answer;
+    PyObject *name = read_text(&(struct text_of){read_type_name, shared, type, arm, part, 0, true}, &answer);
+    if (name && answer.at == 1) return name;
+    Py_XDECREF(name);
+    return PyErr_Occurred() ? NULL : new_ref(Py_None);
 }
 
 /* The first type from this position on that has the path, or None. */

@@ -29,7 +29,7 @@ from typing import Any, Callable, Iterator, Sequence
 
 import registries as make
 import scaleview
-from scaleview import Arm, Bits, Decoder, Empties, EncodeError, Field, OutOfMemory, Refused, Registry, Type, Variant
+from scaleview import Arm, Bits, Decoder, Empties, EncodeError, Field, OutOfMemory, Param, Refused, Registry, Type, Variant
 
 CLIENT = pathlib.Path(__file__).resolve().parents[1]
 EXAMPLES = CLIENT.parents[1] / "examples"
@@ -1205,6 +1205,19 @@ class Types(unittest.TestCase):
         self.assertEqual(str(registry.types[1]), '1 Sized composite "a::Pair"')
         self.assertEqual(repr(registry.types[1]), "<Type 1 composite a::Pair>")
         self.assertEqual(repr(registry.types[0]), "<Type 0 u8>")
+
+    def test_annotations(self) -> None:
+        # W<T = 1, U> { x: 1 as T, 1 }, A(2 as u8), u8
+        registry = Registry(
+            b"\x0c\x00\x04\x04W\x08\x04T\x01\x04\x04U\x00\x00\x08\x01\x04x\x04\x01\x04T\x04\x10of x\x00\x04\x00\x00\x08\x0cone\x00"
+            b"\x04\x00\x00\x01\x04\x04A\x04\x00\x08\x01\x08u8\x08\x04f\x04g\x00\x04\x18an arm\x00\x08\x00\x00\x05\x03\x00"
+        )
+        generic, variant, plain = registry.types
+        self.assertEqual(generic.params, [Param("T", 1), Param("U", None)])
+        self.assertEqual((variant.params, plain.params), ([], []))
+        self.assertEqual((generic.docs, variant.docs, plain.docs), (("one", ""), (), ()))
+        self.assertEqual(generic.fields, [Field("x", 1, "T", ("of x",)), Field(None, 1)])
+        self.assertEqual(variant.variants, [Arm("A", 0, [Field(None, 2, "u8", ("f", "g"))], ("an arm",))])
 
     def test_types_are_a_sequence(self) -> None:
         registry = Registry(make.registry_of(*map(make.primitive, make.PRIMITIVES)))

@@ -1,3 +1,4 @@
+pub mod Annotations
 pub mod Describing
 pub mod Lines
 pub mod NameLines

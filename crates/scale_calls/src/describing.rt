@@ -96,7 +96,7 @@ fn part_of(definition: &TypeDef, position: u32) -> Option<Part<'_>>
 }
 
 /// Returns the arm at a position of a definition, or `None` if it has none there.
-fn arm_of(definition: &TypeDef, position: u32) -> Option<&Arm>
+pub(crate) fn arm_of(definition: &TypeDef, position: u32) -> Option<&Arm>
     ensures { option_copied result ≡ described_arm definition.now position }
 {
     match definition {

@@ -2,6 +2,7 @@
 //! types, and to turn a value into JSON. It knows no files, processes or pointers.
 #![tactic(auto)]
 
+mod annotations;
 mod describing;
 mod lines;
 mod metadata;
@@ -11,6 +12,7 @@ mod refusal;
 mod registry;
 mod value;
 
+pub use annotations::{Subject, docs_line, type_name, type_param};
 pub use describing::{
     Part, PartRefusal, arm_field, find_type, type_arm, type_definition, type_part, type_path,
 };

@@ -1,5 +1,5 @@
 -- What the calls do with boxes and with the counts of sessions.
-use Rattle.std.specs.Prelude.{◌≡◌, ℕ, ◌+◌, ◌-◌, ◌^◌, ◌<◌, ◌⊎◌, min, Option, Some, None}
+use Rattle.std.specs.Prelude.{◌≡◌, ℕ, ◌+◌, ◌%◌, ◌^◌, ◌<◌, ◌⊎◌, Option, Some, None}
 use Rattle.scaleview_c.specs.declared.resource.Resource.{Resource}
 use Rattle.scaleview_c.specs.declared.resource.Resource.TheVariants as held
 use Rattle.scaleview_c.specs.declared.opened.Opened.{Opened}
@@ -12,14 +12,18 @@ Counts K = K → Opened → ℕ → Type 0
 abbrev pub Takes : Type 0 → Type 1
 Takes K = K → Resource → K → Type 0
 
--- the registry has one session more, up to the greatest count
-abbrev pub Lends : {K : Type 0} → Counts K → K → Opened → K → Type 0
-Lends counts before o after = (n : ℕ) × counts before o n
-    × counts after o (min (n + 1) (2 ^ 64 - 1))
+-- the registry has as many sessions more, modulo 2^64
+abbrev pub Adds : {K : Type 0} → Counts K → K → Opened → ℕ → K → Type 0
+Adds counts before o more after = (n : ℕ) × counts before o n
+    × counts after o ((n + more) % 2 ^ 64)
 
--- the registry has one session fewer, down to 0
+-- the registry has one session more
+abbrev pub Lends : {K : Type 0} → Counts K → K → Opened → K → Type 0
+Lends counts before o after = Adds counts before o 1 after
+
+-- the registry has one session fewer
 abbrev pub TakesBack : {K : Type 0} → Counts K → K → Opened → K → Type 0
-TakesBack counts before o after = (n : ℕ) × counts before o n × counts after o (n - 1)
+TakesBack counts before o after = Adds counts after o 1 before
 
 -- a registry that was opened has no session; otherwise nothing changes
 abbrev pub CountsOpen : {K : Type 0} → Counts K → K → Option Resource → Option Resource → K → Type 0

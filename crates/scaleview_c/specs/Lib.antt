@@ -1,3 +1,4 @@
+pub mod Annotations
 pub mod Calls
 pub mod Kept
 pub mod Nodes

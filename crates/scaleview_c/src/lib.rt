@@ -3,6 +3,7 @@
 #![tactic(auto)]
 
 mod allowance;
+mod annotations;
 mod box_parts;
 mod handle;
 mod keeper;

@@ -1,7 +1,7 @@
 //! An open registry, and how many sessions it has.
 
 use chain_core::Names;
-use std::cell::Cell;
+use std::sync::atomic::AtomicU64;
 use widths_core::Checked;
 
 /// An open registry, the names of its metadata if they are read, and how many sessions it has.
@@ -9,5 +9,5 @@ use widths_core::Checked;
 pub struct Opened {
     pub checked: Checked,
     pub names: Option<Names>,
-    pub(crate) sessions: Cell<u64>,
+    pub(crate) sessions: AtomicU64,
 }

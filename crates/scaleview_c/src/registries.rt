@@ -20,8 +20,8 @@ use scale_calls::{
     open_registry, read_value, type_line,
 };
 use std::alloc::Global;
-use std::cell::Cell;
 use std::mem;
+use std::sync::atomic::AtomicU64;
 use value_core::Limits;
 
 /// Returns how flags open a registry.
@@ -61,7 +61,7 @@ fn open_types(
     let opened = Opened {
         checked,
         names: None,
-        sessions: Cell::new(0),
+        sessions: AtomicU64::new(0),
     };
     match reported(Box::new(alloc, Resource::Registry(opened))) {
         Ok(held) => Ok((held, answer)),
@@ -87,7 +87,7 @@ fn open_names(alloc: Global, bits: bool, bytes: &[u8]) -> Result<(Box<Resource>,
     let opened = Opened {
         checked,
         names: Some(names),
-        sessions: Cell::new(0),
+        sessions: AtomicU64::new(0),
     };
     match reported(Box::new(alloc, Resource::Registry(opened))) {
         Ok(held) => Ok((held, answer)),

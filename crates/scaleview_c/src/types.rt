@@ -77,7 +77,7 @@ fn primitive_number(primitive: Primitive) -> u32
 }
 
 /// Returns the code that says why there is no part.
-fn part_code(refusal: PartRefusal) -> u32
+pub(crate) fn part_code(refusal: PartRefusal) -> u32
     ensures { result ≡ part_code refusal }
 {
     match refusal {

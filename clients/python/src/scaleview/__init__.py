@@ -37,7 +37,7 @@ from ._base import Bits, Empties, EncodeError, OutOfMemory, Refused, UnknownName
 from ._json import json_default, to_json_for_browsers
 from ._metadata import Metadata, Method, Named, StorageEntry
 from ._native import DEPTH, LIMIT, Decoder, Variant
-from ._registry import Arm, Field, Registry, Type
+from ._registry import Arm, Field, Param, Registry, Type
 
 __version__ = "0.1.0"
 __all__ = [
@@ -53,6 +53,7 @@ __all__ = [
     "Method",
     "Field",
     "Arm",
+    "Param",
     "Refused",
     "UnknownName",
     "EncodeError",

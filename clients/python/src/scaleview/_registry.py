@@ -36,12 +36,20 @@ _T = TypeVar("_T", bound="Type")
 os.register_at_fork(after_in_child=_native._after_fork)
 
 
+#: Stands for no position of an arm or of a field.
+_NONE = 2**32 - 1
+
+
 class Field(NamedTuple):
     """A field of a composite or of an arm, or a member of a tuple."""
 
     name: Optional[str]
     #: The position of its type.
     type: int
+    #: The type's name as the source has it, if the registry has it.
+    type_name: Optional[str] = None
+    #: The lines of its documentation.
+    docs: Tuple[str, ...] = ()
 
 
 class Arm(NamedTuple):
@@ -51,10 +59,16 @@ class Arm(NamedTuple):
     #: The first byte of its values.
     index: int
     fields: List[Field]
+    #: The lines of its documentation.
+    docs: Tuple[str, ...] = ()
 
 
-def _fields(pairs: List[Tuple[Optional[str], int]]) -> List[Field]:
-    return [Field(name, type_id) for name, type_id in pairs]
+class Param(NamedTuple):
+    """A parameter of a generic type."""
+
+    name: str
+    #: The position of the type that stands for it, if there is one. It need not exist.
+    type: Optional[int]
 
 
 class Type(_native.Type):
@@ -85,13 +99,38 @@ class Type(_native.Type):
     @property
     def fields(self) -> List[Field]:
         """The fields of a composite or the members of a tuple, and else an empty list."""
-        return _fields(self.registry._parts(self.id))
+        return self._fields(_NONE, self.registry._parts(self.id))
 
     @property
     def variants(self) -> List[Arm]:
         """The arms of a variant, and else an empty list."""
         arms = self.registry._arms(self.id)
-        return [Arm(name, index, _fields(pairs)) for name, index, pairs in arms]
+        return [
+            Arm(name, index, self._fields(at, pairs), tuple(self.registry._docs(self.id, at)))
+            for at, (name, index, pairs) in enumerate(arms)
+        ]
+
+    @property
+    def params(self) -> List[Param]:
+        """The parameters of a generic type, and else an empty list."""
+        return [Param(name, type_id) for name, type_id in self.registry._params(self.id)]
+
+    @property
+    def docs(self) -> Tuple[str, ...]:
+        """The lines of its documentation."""
+        return tuple(self.registry._docs(self.id))
+
+    def _fields(self, arm: int, pairs: List[Tuple[Optional[str], int]]) -> List[Field]:
+        registry = self.registry
+        return [
+            Field(
+                name,
+                type_id,
+                registry._type_name(self.id, arm, at),
+                tuple(registry._docs(self.id, arm, at)),
+            )
+            for at, (name, type_id) in enumerate(pairs)
+        ]
 
     @property
     def element(self) -> Optional[int]:

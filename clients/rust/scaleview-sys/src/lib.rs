@@ -9,12 +9,10 @@
 //!   call writes to must not overlap anything else that it is given. No call keeps a pointer to
 //!   bytes.
 //! - A handle is null or was set by a call. A copy of a closed or freed handle must not be used.
-//! - [`scaleview_types`], the calls that describe types, those that ask for names,
-//!   [`scaleview_decode`], [`scaleview_decode_nodes`] and [`scaleview_encode_nodes`] only read a
-//!   registry: any number of threads may make them on one registry at the same time.
-//! - A session is used by one call at a time. Of [`scaleview_start`] and [`scaleview_free`], one
-//!   call at a time may run on a registry and its sessions, and no other call on them during
-//!   [`scaleview_close`].
+//! - Any number of threads may make calls on one registry at the same time, and start and free
+//!   sessions of it. Only during [`scaleview_close`] no other call may run on the registry or on a
+//!   session of it.
+//! - A session is used by one call at a time. Calls on different sessions may run at the same time.
 //! - [`scaleview_decode`] and [`scaleview_finish`] need a thread of 128 KiB for values of depth 64,
 //!   and one of 1 MiB for depth 1024. No other call needs more than 16 KiB.
 
@@ -28,6 +26,9 @@ use core::mem::{align_of, offset_of, size_of};
 /// The version of this header: 10000 times the major number, 100 times the minor one, and the patch
 /// number.
 pub const SCALEVIEW_VERSION: u32 = 100;
+
+/// Stands for no position of an arm or of a field.
+pub const SCALEVIEW_NONE: u32 = u32::MAX;
 
 /// The call succeeded.
 pub const SCALEVIEW_OK: u32 = 0;
@@ -356,8 +357,7 @@ unsafe extern "C" {
     /// # Safety
     ///
     /// `registry` is null, or open and not closed before the call returns, by another thread too.
-    /// No call that changes the registry or a session of it runs at the same time. `answer` can be
-    /// written. What is written overlaps nothing else that the call is given.
+    /// `answer` can be written. What is written overlaps nothing else that the call is given.
     pub fn scaleview_types(registry: scaleview_registry, answer: *mut scaleview_answer) -> u32;
 
     /// Writes the type's line to `out`: its position, class, kind and path, and a line feed.
@@ -365,9 +365,8 @@ unsafe extern "C" {
     /// # Safety
     ///
     /// `registry` is null, or open and not closed before the call returns, by another thread too.
-    /// No call that changes the registry or a session of it runs at the same time. `out` can be
-    /// written for `room` bytes. `answer` can be written. What is written overlaps nothing else
-    /// that the call is given.
+    /// `out` can be written for `room` bytes. `answer` can be written. What is written overlaps
+    /// nothing else that the call is given.
     pub fn scaleview_type_line(
         registry: scaleview_registry,
         id: u32,
@@ -381,8 +380,8 @@ unsafe extern "C" {
     /// # Safety
     ///
     /// `registry` is null, or open and not closed before the call returns, by another thread too.
-    /// No call that changes the registry or a session of it runs at the same time. `shape` and
-    /// `answer` can be written. What is written overlaps nothing else that the call is given.
+    /// `shape` and `answer` can be written. What is written overlaps nothing else that the call is
+    /// given.
     pub fn scaleview_type(
         registry: scaleview_registry,
         id: u32,
@@ -395,9 +394,8 @@ unsafe extern "C" {
     /// # Safety
     ///
     /// `registry` is null, or open and not closed before the call returns, by another thread too.
-    /// No call that changes the registry or a session of it runs at the same time. `out` can be
-    /// written for `room` bytes. `answer` can be written. What is written overlaps nothing else
-    /// that the call is given.
+    /// `out` can be written for `room` bytes. `answer` can be written. What is written overlaps
+    /// nothing else that the call is given.
     pub fn scaleview_part(
         registry: scaleview_registry,
         id: u32,
@@ -412,9 +410,8 @@ unsafe extern "C" {
     /// # Safety
     ///
     /// `registry` is null, or open and not closed before the call returns, by another thread too.
-    /// No call that changes the registry or a session of it runs at the same time. `out` can be
-    /// written for `room` bytes. `answer` can be written. What is written overlaps nothing else
-    /// that the call is given.
+    /// `out` can be written for `room` bytes. `answer` can be written. What is written overlaps
+    /// nothing else that the call is given.
     pub fn scaleview_arm(
         registry: scaleview_registry,
         id: u32,
@@ -429,9 +426,8 @@ unsafe extern "C" {
     /// # Safety
     ///
     /// `registry` is null, or open and not closed before the call returns, by another thread too.
-    /// No call that changes the registry or a session of it runs at the same time. `out` can be
-    /// written for `room` bytes. `answer` can be written. What is written overlaps nothing else
-    /// that the call is given.
+    /// `out` can be written for `room` bytes. `answer` can be written. What is written overlaps
+    /// nothing else that the call is given.
     pub fn scaleview_arm_field(
         registry: scaleview_registry,
         id: u32,
@@ -442,14 +438,65 @@ unsafe extern "C" {
         answer: *mut scaleview_answer,
     ) -> u32;
 
+    /// Reports a type's parameter, and writes its name to `out`.
+    ///
+    /// # Safety
+    ///
+    /// `registry` is null, or open and not closed before the call returns, by another thread too.
+    /// `out` can be written for `room` bytes. `answer` can be written. What is written overlaps
+    /// nothing else that the call is given.
+    pub fn scaleview_param(
+        registry: scaleview_registry,
+        id: u32,
+        param: u32,
+        out: *mut u8,
+        room: usize,
+        answer: *mut scaleview_answer,
+    ) -> u32;
+
+    /// Writes the name of a field's type to `out`. `arm` is `SCALEVIEW_NONE` for a composite's
+    /// field.
+    ///
+    /// # Safety
+    ///
+    /// `registry` is null, or open and not closed before the call returns, by another thread too.
+    /// `out` can be written for `room` bytes. `answer` can be written. What is written overlaps
+    /// nothing else that the call is given.
+    pub fn scaleview_type_name(
+        registry: scaleview_registry,
+        id: u32,
+        arm: u32,
+        field: u32,
+        out: *mut u8,
+        room: usize,
+        answer: *mut scaleview_answer,
+    ) -> u32;
+
+    /// Writes a line of a documentation to `out`. `SCALEVIEW_NONE` stands for no arm and no field.
+    ///
+    /// # Safety
+    ///
+    /// `registry` is null, or open and not closed before the call returns, by another thread too.
+    /// `out` can be written for `room` bytes. `answer` can be written. What is written overlaps
+    /// nothing else that the call is given.
+    pub fn scaleview_docs(
+        registry: scaleview_registry,
+        id: u32,
+        arm: u32,
+        field: u32,
+        line: u32,
+        out: *mut u8,
+        room: usize,
+        answer: *mut scaleview_answer,
+    ) -> u32;
+
     /// Writes the type's path to `out`, its segments joined by `::`.
     ///
     /// # Safety
     ///
     /// `registry` is null, or open and not closed before the call returns, by another thread too.
-    /// No call that changes the registry or a session of it runs at the same time. `out` can be
-    /// written for `room` bytes. `answer` can be written. What is written overlaps nothing else
-    /// that the call is given.
+    /// `out` can be written for `room` bytes. `answer` can be written. What is written overlaps
+    /// nothing else that the call is given.
     pub fn scaleview_path(
         registry: scaleview_registry,
         id: u32,
@@ -464,9 +511,8 @@ unsafe extern "C" {
     /// # Safety
     ///
     /// `registry` is null, or open and not closed before the call returns, by another thread too.
-    /// No call that changes the registry or a session of it runs at the same time. `path` can be
-    /// read for `length` elements. `answer` can be written. What is written overlaps nothing else
-    /// that the call is given.
+    /// `path` can be read for `length` elements. `answer` can be written. What is written overlaps
+    /// nothing else that the call is given.
     pub fn scaleview_find(
         registry: scaleview_registry,
         from: u32,
@@ -481,9 +527,8 @@ unsafe extern "C" {
     /// # Safety
     ///
     /// `registry` is null, or open and not closed before the call returns, by another thread too.
-    /// No call that changes the registry or a session of it runs at the same time. `name` can be
-    /// read for `length` elements. `answer` can be written. What is written overlaps nothing else
-    /// that the call is given.
+    /// `name` can be read for `length` elements. `answer` can be written. What is written overlaps
+    /// nothing else that the call is given.
     pub fn scaleview_name(
         registry: scaleview_registry,
         name: *const u8,
@@ -497,9 +542,8 @@ unsafe extern "C" {
     /// # Safety
     ///
     /// `registry` is null, or open and not closed before the call returns, by another thread too.
-    /// No call that changes the registry or a session of it runs at the same time. `out` can be
-    /// written for `room` bytes. `answer` can be written. What is written overlaps nothing else
-    /// that the call is given.
+    /// `out` can be written for `room` bytes. `answer` can be written. What is written overlaps
+    /// nothing else that the call is given.
     pub fn scaleview_name_at(
         registry: scaleview_registry,
         index: u32,
@@ -513,9 +557,8 @@ unsafe extern "C" {
     /// # Safety
     ///
     /// `registry` is null, or open and not closed before the call returns, by another thread too.
-    /// No call that changes the registry or a session of it runs at the same time. `name` can be
-    /// read for `length` elements. `out` can be written for `room` bytes. `answer` can be written.
-    /// What is written overlaps nothing else that the call is given.
+    /// `name` can be read for `length` elements. `out` can be written for `room` bytes. `answer`
+    /// can be written. What is written overlaps nothing else that the call is given.
     pub fn scaleview_name_bytes(
         registry: scaleview_registry,
         name: *const u8,
@@ -539,9 +582,8 @@ unsafe extern "C" {
     /// # Safety
     ///
     /// `registry` is null, or open and not closed before the call returns, by another thread too.
-    /// No call that changes the registry or a session of it runs at the same time. `bytes` can be
-    /// read for `length` elements. `out` can be written for `room` bytes. `answer` can be written.
-    /// What is written overlaps nothing else that the call is given.
+    /// `bytes` can be read for `length` elements. `out` can be written for `room` bytes. `answer`
+    /// can be written. What is written overlaps nothing else that the call is given.
     pub fn scaleview_decode(
         registry: scaleview_registry,
         id: u32,
@@ -560,10 +602,9 @@ unsafe extern "C" {
     /// # Safety
     ///
     /// `registry` is null, or open and not closed before the call returns, by another thread too.
-    /// No call that changes the registry or a session of it runs at the same time. `bytes` can be
-    /// read for `length` elements. `nodes` can be written for `node_room` elements. `pool` can be
-    /// written for `pool_room` bytes. `answer` can be written. What is written overlaps nothing
-    /// else that the call is given.
+    /// `bytes` can be read for `length` elements. `nodes` can be written for `node_room` elements.
+    /// `pool` can be written for `pool_room` bytes. `answer` can be written. What is written
+    /// overlaps nothing else that the call is given.
     pub fn scaleview_decode_nodes(
         registry: scaleview_registry,
         id: u32,
@@ -584,10 +625,9 @@ unsafe extern "C" {
     /// # Safety
     ///
     /// `registry` is null, or open and not closed before the call returns, by another thread too.
-    /// No call that changes the registry or a session of it runs at the same time. `nodes` can be
-    /// read for `count` elements. `pool` can be read for `pool_length` elements. `out` can be
-    /// written for `room` bytes. `answer` can be written. What is written overlaps nothing else
-    /// that the call is given.
+    /// `nodes` can be read for `count` elements. `pool` can be read for `pool_length` elements.
+    /// `out` can be written for `room` bytes. `answer` can be written. What is written overlaps
+    /// nothing else that the call is given.
     pub fn scaleview_encode_nodes(
         registry: scaleview_registry,
         id: u32,
@@ -606,9 +646,9 @@ unsafe extern "C" {
     ///
     /// # Safety
     ///
-    /// `registry` is null or open, and `session` points to a handle that this call alone uses. No
-    /// other call on the registry, or on a session of it, runs at the same time. `answer` can be
-    /// written. What is written overlaps nothing else that the call is given.
+    /// `registry` is null, or open and not closed before the call returns, by another thread too.
+    /// `session` points to a handle that this call alone uses. `answer` can be written. What is
+    /// written overlaps nothing else that the call is given.
     pub fn scaleview_start(
         registry: scaleview_registry,
         id: u32,
@@ -624,9 +664,8 @@ unsafe extern "C" {
     /// # Safety
     ///
     /// `session` points to a handle that is null or was set by [`scaleview_start`], which this call
-    /// alone uses. No other call on the registry, or on a session of it, runs at the same time.
-    /// `piece` can be read for `length` elements. `answer` can be written. What is written overlaps
-    /// nothing else that the call is given.
+    /// alone uses. `piece` can be read for `length` elements. `answer` can be written. What is
+    /// written overlaps nothing else that the call is given.
     pub fn scaleview_feed(
         session: *mut scaleview_session,
         piece: *const u8,
@@ -639,8 +678,8 @@ unsafe extern "C" {
     /// # Safety
     ///
     /// `session` points to a handle that is null or was set by [`scaleview_start`], which this call
-    /// alone uses. No other call on the registry, or on a session of it, runs at the same time.
-    /// `answer` can be written. What is written overlaps nothing else that the call is given.
+    /// alone uses. `answer` can be written. What is written overlaps nothing else that the call is
+    /// given.
     pub fn scaleview_taken(session: *mut scaleview_session, answer: *mut scaleview_answer) -> u32;
 
     /// Reports the number of nodes held.
@@ -648,8 +687,8 @@ unsafe extern "C" {
     /// # Safety
     ///
     /// `session` points to a handle that is null or was set by [`scaleview_start`], which this call
-    /// alone uses. No other call on the registry, or on a session of it, runs at the same time.
-    /// `answer` can be written. What is written overlaps nothing else that the call is given.
+    /// alone uses. `answer` can be written. What is written overlaps nothing else that the call is
+    /// given.
     pub fn scaleview_nodes(session: *mut scaleview_session, answer: *mut scaleview_answer) -> u32;
 
     /// Reports the number of bytes of texts, byte runs and bit sequences held.
@@ -657,8 +696,8 @@ unsafe extern "C" {
     /// # Safety
     ///
     /// `session` points to a handle that is null or was set by [`scaleview_start`], which this call
-    /// alone uses. No other call on the registry, or on a session of it, runs at the same time.
-    /// `answer` can be written. What is written overlaps nothing else that the call is given.
+    /// alone uses. `answer` can be written. What is written overlaps nothing else that the call is
+    /// given.
     pub fn scaleview_text_bytes(
         session: *mut scaleview_session,
         answer: *mut scaleview_answer,
@@ -669,9 +708,8 @@ unsafe extern "C" {
     /// # Safety
     ///
     /// `session` points to a handle that is null or was set by [`scaleview_start`], which this call
-    /// alone uses. No other call on the registry, or on a session of it, runs at the same time.
-    /// `out` can be written for `room` bytes. `answer` can be written. What is written overlaps
-    /// nothing else that the call is given.
+    /// alone uses. `out` can be written for `room` bytes. `answer` can be written. What is written
+    /// overlaps nothing else that the call is given.
     pub fn scaleview_finish(
         session: *mut scaleview_session,
         out: *mut u8,
@@ -684,10 +722,9 @@ unsafe extern "C" {
     /// # Safety
     ///
     /// `session` points to a handle that is null or was set by [`scaleview_start`], which this call
-    /// alone uses. No other call on the registry, or on a session of it, runs at the same time.
-    /// `nodes` can be written for `node_room` elements. `pool` can be written for `pool_room`
-    /// bytes. `answer` can be written. What is written overlaps nothing else that the call is
-    /// given.
+    /// alone uses. `nodes` can be written for `node_room` elements. `pool` can be written for
+    /// `pool_room` bytes. `answer` can be written. What is written overlaps nothing else that the
+    /// call is given.
     pub fn scaleview_finish_nodes(
         session: *mut scaleview_session,
         nodes: *mut scaleview_node,
@@ -702,7 +739,7 @@ unsafe extern "C" {
     /// # Safety
     ///
     /// `session` points to a handle that is null or was set by [`scaleview_start`], which this call
-    /// alone uses. No other call on the registry, or on a session of it, runs at the same time.
+    /// alone uses. The registry isn't closed before the call returns, by another thread too.
     pub fn scaleview_free(session: *mut scaleview_session) -> u32;
 
     /// Writes the name of a code to `out`, at most 18 bytes of ASCII.

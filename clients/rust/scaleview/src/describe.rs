@@ -37,6 +37,11 @@ impl Reader {
         Reader { handle }
     }
 
+    /// Returns the handle, for calls that only read the registry.
+    pub fn handle(self) -> Handle {
+        self.handle
+    }
+
     /// Returns what the type is.
     pub fn shape(self, id: TypeId) -> Result<Shape, Answer> {
         let (mut shape, mut answer) = (Shape::default(), Answer::default());

@@ -34,6 +34,7 @@
     clippy::unwrap_used
 )]
 
+mod annotations;
 mod bits;
 mod buffer;
 mod convert;
@@ -59,6 +60,7 @@ mod value;
 mod view;
 mod wide;
 
+pub use annotations::{Param, Part};
 pub use bits::{BitIter, Bits};
 pub use convert::TryFromValueError;
 pub use error::{Error, NodeReason, RegistryReason, ValueReason};

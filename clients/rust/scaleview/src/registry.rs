@@ -16,16 +16,15 @@ use scaleview_sys::{
 };
 use std::fmt;
 use std::sync::atomic::{AtomicU8, Ordering};
-use std::sync::{Arc, Mutex, OnceLock, PoisonError};
+use std::sync::{Arc, OnceLock};
 
 /// The library's handle of an open registry.
 struct Raw(Handle);
 
-// SAFETY: "A handle may be used on any thread", says the header, and wants some calls kept apart.
-// Those that "only read a registry: any number of threads may make them on one registry at the same
-// time" are made in `Registry::reading`. Of start and free, "one call at a time may run on a
-// registry and its sessions": they are made in `Registry::counting`. "No other call on them may run
-// during scaleview_close", which is made in `drop`, where nothing else has the registry.
+// SAFETY: "A handle may be used on any thread", says the header, and "any number of threads may make
+// calls on one registry at the same time, and start and free sessions of it". "Only during
+// scaleview_close no other call may run on the registry", which is made in `drop`, where nothing
+// else has the registry.
 unsafe impl Send for Raw {}
 // SAFETY: as above.
 unsafe impl Sync for Raw {}
@@ -41,8 +40,7 @@ struct Slot {
 
 /// A registry of types that is open. It is freed when it is dropped.
 ///
-/// It may be shared by threads. Calls that only read it run at the same time: decoding, encoding
-/// and questions about types. So do calls on different sessions.
+/// It may be shared by threads. Calls on it and on different sessions run at the same time.
 ///
 /// # Examples
 ///
@@ -70,8 +68,6 @@ struct Slot {
 /// ```
 pub struct Registry {
     raw: Raw,
-    /// Held while a session is started or freed.
-    count: Mutex<()>,
     slots: Vec<Slot>,
     len: u32,
     end: u64,
@@ -105,7 +101,6 @@ impl Registry {
         let len = answer.length as u32;
         let mut registry = Registry {
             raw: Raw(handle),
-            count: Mutex::new(()),
             slots: Vec::new(),
             len,
             end: answer.at,
@@ -167,15 +162,8 @@ impl Registry {
         OpenOptions::new().open_metadata(bytes)
     }
 
-    /// Makes a call that only reads the registry; others may run at the same time.
+    /// Makes a call on the registry; others may run at the same time.
     pub(crate) fn reading<T>(&self, call: impl FnOnce(Handle) -> T) -> T {
-        call(self.raw.0)
-    }
-
-    /// Makes a call that changes the count of sessions; no other of this kind runs at the same
-    /// time.
-    pub(crate) fn counting<T>(&self, call: impl FnOnce(Handle) -> T) -> T {
-        let _alone = self.count.lock().unwrap_or_else(PoisonError::into_inner);
         call(self.raw.0)
     }
 

@@ -42,7 +42,7 @@ pub enum Progress {
 struct Raw(Handle);
 
 // SAFETY: "A handle may be used on any thread", says the header. "A session is used by one call at
-// a time": its handle lies in a lock. It is started and freed in `Registry::counting`.
+// a time": its handle lies in a lock.
 unsafe impl Send for Raw {}
 
 /// A value in progress, as [`Session`] and [`OwnedSession`] are. It is freed when it is dropped.
@@ -123,9 +123,8 @@ impl<R: RegistryRef> AnySession<R> {
             },
             Answer::default(),
         );
-        let code = owner.registry().counting(|open| {
-            // SAFETY: the registry is open, and no other session is started or freed; the places
-            // are this call's, and the handle is null.
+        let code = owner.registry().reading(|open| {
+            // SAFETY: the registry is open; the places are this call's, and the handle is null.
             unsafe {
                 sys::scaleview_start(
                     open,
@@ -303,9 +302,7 @@ impl<R: RegistryRef> fmt::Debug for AnySession<R> {
 
 impl<R: RegistryRef> Drop for AnySession<R> {
     fn drop(&mut self) {
-        // SAFETY: as in `feed`; no other session is started or freed, and no call follows.
-        self.owner
-            .registry()
-            .counting(|_| self.changing(|session| unsafe { sys::scaleview_free(session) }));
+        // SAFETY: as in `feed`; no call follows, and the owner keeps the registry open until then.
+        self.changing(|session| unsafe { sys::scaleview_free(session) });
     }
 }
