@@ -3,7 +3,7 @@
 /* An open registry: its slot in the addon, its types and the functions that make values. */
 
 const {
-  addon, words, numbers, answer, BATCH, SLOT, TYPE, DEPTH, COUNT, CODE, DONE, WORDS,
+  addon, words, numbers, answer, BATCH, SLOT, TYPE, DEPTH, COUNT, CODE, DONE, WORDS, AT,
   POOL_LENGTH, LIMIT, MEMORY, MEMORY_OF_A_BYTE,
 } = require('./native');
 const { errorOf, allocated } = require('./errors');
@@ -14,6 +14,8 @@ const { Readers } = require('./generator');
 const { Writer } = require('./writer');
 
 const [NO_ROOM, UNKNOWN_TYPE] = [2, 201];
+/** The flag of metadata whose names are read. */
+const NAMES = 2;
 /** The slot of a closed registry. */
 const NO_SLOT = 0xffffffff;
 /** The bytes that a node's value takes at most, besides those in the pool. */
@@ -21,21 +23,30 @@ const MOST_BYTES_OF_A_NODE = 17;
 const CODES_OF_NODES = 400;
 
 /** The error of opening a registry. A value's codes are then about what follows it in metadata. */
-function openingError(found) {
-  if (found.code < 300) return errorOf(found);
-  return errorOf(found, { part: 'registry' });
+function openingError(found, before) {
+  if (found.code < 300) return errorOf(found, { before });
+  return errorOf(found, { part: 'registry', before });
+}
+
+/** The metadata in what a node answers to `Metadata_metadata_at_version`, or the bytes as they are. */
+function unwrapped(bytes) {
+  if (bytes.length === 0 || bytes[0] !== 1) return bytes;
+  addon.opaque(unshared(bytes.subarray(1)));
+  return words[CODE] === 0 ? bytes.subarray(1 + numbers[AT]) : bytes;
 }
 
 class Open {
   #external;
 
   constructor(bytes, flags, options) {
-    this.#external = addon.open(unshared(bytes), flags);
+    const inner = flags & NAMES ? unwrapped(bytes) : bytes;
+    const before = bytes.length - inner.length;
+    this.#external = addon.open(unshared(inner), flags);
     const found = answer();
-    if (found.code !== 0) throw openingError(found);
+    if (found.code !== 0) throw openingError(found, before);
     this.slot = words[SLOT];
     this.version = found.from;
-    this.end = found.at;
+    this.end = found.at + before;
     this.types = new Types(this, found.length, options);
     this.readers = new Readers(this.types);
   }

@@ -102,6 +102,26 @@ test('runtime calls of a small chain', () => {
   assert.deepEqual(small.constants.get('Sys.Name'), Uint8Array.of(97, 98, 99));
 });
 
+test('metadata in what a node answers for a version', () => {
+  const bytes = metadataOf('small chain 15');
+  // A length below 2^14 is a compact of two bytes.
+  const wrap = (inner) => Uint8Array.of(1, (inner.length << 2) & 255 | 1, inner.length >> 6, ...inner);
+  assert.ok(bytes.length >= 64 && bytes.length < 2 ** 14);
+  const small = new Metadata(wrap(bytes));
+  assert.equal(small.constants.get('Sys.Limit'), 4096);
+  assert.deepEqual([...new Metadata(Buffer.from(wrap(bytes)).toString('hex')).custom], ['Owner', 'Sys.Now']);
+  // Places count from the first byte.
+  const cut = bytes.subarray(0, bytes.length - 1);
+  assert.throws(() => new Metadata(wrap(cut)), { message: `registry: Truncated at ${bytes.length + 2}` });
+  // Nothing else is taken off.
+  for (const front of [0, 2]) {
+    const other = wrap(bytes);
+    other[0] = front;
+    assert.throws(() => new Metadata(other), { message: 'registry: NotMetadata at 0' });
+  }
+  assert.throws(() => new Metadata(wrap(bytes).subarray(0, -1)), { message: 'registry: NotMetadata at 0' });
+});
+
 test('a registry reads no names', () => {
   const registry = new Registry(read('chain/chain.metadata'));
   assert.equal(registry.version, 14);

@@ -1,9 +1,9 @@
 //! A value's JSON text in the caller's memory.
 
-ghost use Rattle.std.specs.Prelude.{◌≡◌, ◌≤◌, length, IfOk, IfErr};
+ghost use Rattle.std.specs.Prelude.{◌≡◌, ◌≤◌, length, IfOk, IfErr, IsOk};
 ghost use Rattle.json.specs.Print.{escape, quoted};
 ghost use Rattle.json_core.specs.Json.{json_text};
-ghost use Rattle.json_core.specs.Printed.{IsInFront, run_text};
+ghost use Rattle.json_core.specs.Printed.{IsInFront, IsPlaced, run_text};
 
 use crate::printing::json_text;
 use growth_core::Refused;
@@ -68,6 +68,8 @@ pub fn json_to_slice<A: Allocator, B: Allocator>(
     ensures len { IfOk result (λ len. len ≡ length (json_text value.now)) }
     ensures ok { IfOk result (λ len. IsInFront (json_text value.now) out.old out.new) }
     ensures err { IfErr result (λ e. out.new ≡ out.old) }
+    // Of one run of bytes, and of one text without an escape, no allocation can fail.
+    ensures placed { IsPlaced value.now.tree → IsOk result }
 {
     let root = value.root();
     if let Some(text) = root.text()
