@@ -6,7 +6,9 @@ use crate::expect::same;
 use decode_core::{DecodeFault, DecodeReason, Decoder, Progress};
 use linked_list_allocator::LocalHeap;
 use scale_tests::building::checked;
-use scale_tests::registries::{BYTES, LONG_ARRAY, LONG_ARRAY_OF_WORDS, U8, WORDS, nested_pairs};
+use scale_tests::registries::{
+    BYTES, HUGE_ARRAY_OF_WORDS, LONG_ARRAY, LONG_ARRAY_OF_WORDS, U8, WORDS, nested_pairs,
+};
 use scale_tests::rows::AMPLE;
 use std::alloc::Global;
 use std::process::Abort;
@@ -94,6 +96,19 @@ fn claimed_lengths_fit_a_small_heap(rt: HostRuntime) {
 fn a_claimed_length_takes_room_by_what_came(rt: HostRuntime) {
     let words = letters(rt.alloc(), 1_073_741_823, 2000).expect(&rt, "memory");
     check_claim(&rt, rt.alloc(), 150_000, (WORDS, &words), (1001, 0))
+}
+
+// 2^31 words are claimed and 40 follow, whose nodes take 984 bytes. The heap serves no request for
+// more than its 4096 bytes.
+#[test]
+fn a_claim_of_many_elements_asks_for_few(rt: HostRuntime) {
+    check_claim(
+        &rt,
+        rt.alloc(),
+        4096,
+        (HUGE_ARRAY_OF_WORDS, &[7; 80]),
+        (41, 0),
+    )
 }
 
 /// Feeds a piece whose allocation fails, and checks that the decoder then holds nothing.
