@@ -215,6 +215,9 @@ typedef struct scaleview_session {
  * chain's metadata, version 14 or 15, which begins with the registry; what follows it is only read with SCALEVIEW_NAMES. The
  * bytes are not kept.
  *
+ * Opening has no budget of memory: it may hold some 35 times `length` bytes, and holds some 8 times for a runtime's registry. To
+ * bound the memory for bytes that aren't trusted, bound `length`.
+ *
  * With both, all of the metadata is read, and it has to end with the bytes. The registry then has its own types and, after
  * them, synthetic ones: those of extrinsics, of storage keys and of the parameters of runtime calls, and the few small types
  * that these need. Its own types never refer to synthetic ones. scaleview_name and the calls after it ask for the names.

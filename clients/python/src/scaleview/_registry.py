@@ -99,14 +99,14 @@ class Type(_native.Type):
     @property
     def fields(self) -> List[Field]:
         """The fields of a composite or the members of a tuple, and else an empty list."""
-        return self._fields(_NONE, self.registry._parts(self.id))
+        return self._fields_of(_NONE, self.registry._parts(self.id))
 
     @property
     def variants(self) -> List[Arm]:
         """The arms of a variant, and else an empty list."""
         arms = self.registry._arms(self.id)
         return [
-            Arm(name, index, self._fields(at, pairs), tuple(self.registry._docs(self.id, at)))
+            Arm(name, index, self._fields_of(at, pairs), tuple(self.registry._docs(self.id, at)))
             for at, (name, index, pairs) in enumerate(arms)
         ]
 
@@ -120,7 +120,7 @@ class Type(_native.Type):
         """The lines of its documentation."""
         return tuple(self.registry._docs(self.id))
 
-    def _fields(self, arm: int, pairs: List[Tuple[Optional[str], int]]) -> List[Field]:
+    def _fields_of(self, arm: int, pairs: List[Tuple[Optional[str], int]]) -> List[Field]:
         registry = self.registry
         return [
             Field(
