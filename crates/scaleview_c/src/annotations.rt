@@ -119,8 +119,8 @@ pub extern "C" fn scaleview_type_name(
     answer.code
 }
 
-/// Writes a line of the documentation of a type, or of a field or an arm, where `NONE` stands for no
-/// arm and no field.
+/// Writes a line of the documentation of a type, or of a field or an arm, where `NONE` stands for
+/// no arm and no field.
 ///
 /// # Errors
 ///
