@@ -251,7 +251,8 @@ opening_fault types root limits =
     else (if nat_lt 1024 limits.depth || nat_lt (2 ^ 40) limits.bytes then Some
     opening.LimitOutOfRange else None)
 
-abbrev pub OpensDecoder : Option OpenFault → Decoding → Result Decoding OpenFault → Type 0
+-- what is made is the first one, unless there is a fault or an allocation fails
+abbrev pub OpensDecoder : {X : Type 0} → Option OpenFault → X → Result X OpenFault → Type 0
 OpensDecoder None first (Ok d) = d ≡ first
 OpensDecoder None first (Err e) = e ≡ opening.OutOfMemory evidence
 OpensDecoder (Some f) first (Ok d) = ⊥

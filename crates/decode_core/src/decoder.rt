@@ -1,7 +1,7 @@
 //! The streaming decoder.
 
 ghost use Rattle.std.specs.Prelude.{◌≡◌, ◌+◌, ◌++◌, ◌≤◌, [], ℕ, List, Ok, Err, IfOk, length};
-ghost use Rattle.std.specs.Prelude.{suc, take, true, IfErr, ◌-◌};
+ghost use Rattle.std.specs.Prelude.{suc, take, true, IfErr, OnOk, ◌-◌, ◌^◌, option_map, slice_get};
 ghost use Rattle.value_core.specs.Built.{finished};
 ghost use Rattle.value_core.specs.Refusals.{is_complete};
 ghost use Rattle.machine_core.specs.Running.{Running};
@@ -12,7 +12,9 @@ ghost use Rattle.decode_core.specs.Decoding.{FedAsks, FedCounts, FedTakes, Finis
 ghost use Rattle.decode_core.specs.Decoding.{HasCounted, HasValue, HoldsAt, IsKept, IsLedTo};
 ghost use Rattle.decode_core.specs.Decoding.{IsSmall, IsSmallAtEnd, IsSmallValue, Led, LoopCounted};
 ghost use Rattle.decode_core.specs.Decoding.{OpensDecoder, RunAnswers, RunLed, closing_turns};
-ghost use Rattle.decode_core.specs.Decoding.{first_of_all, node_count, opening_fault, text_bytes};
+ghost use Rattle.decode_core.specs.Decoding.{first_of_all, first_running, node_count, opening_fault};
+ghost use Rattle.decode_core.specs.Decoding.{text_bytes};
+ghost use Rattle.decode_core.specs.Paths.{PathLed, decoder_next, decoder_path};
 ghost use Rattle.graph_core.specs.Widths.{widest};
 
 use crate::fault::{DecodeFault, OpenFault};
@@ -23,7 +25,7 @@ use std::alloc::Allocator;
 use std::marker::Model;
 use std::mem;
 use types_core::TypeId;
-use value_core::{Limits, RawBuilder, Value};
+use value_core::{Limits, PathStep, RawBuilder, Value};
 use widths_core::Checked;
 
 /// The greatest limit of bytes, 2^40.
@@ -92,8 +94,33 @@ enum Fed {
     Ended(DecodeFault, u64),
 }
 
+/// Returns a value in progress that has taken no bytes.
+///
+/// # Errors
+///
+/// Those of [`Decoder::new`].
+pub(crate) fn first_run<'r, A: Allocator + Clone>(
+    alloc: A,
+    checked: &'r Checked,
+    root: TypeId,
+    limits: Limits,
+) -> Result<Partial<'r, A>, OpenFault>
+    ensures opens { OpensDecoder (opening_fault checked.now.types root.0 limits)
+        (first_running checked.now.types root.0 limits.depth) result }
+    ensures limit { OnOk result (limits.bytes ≤ 2 ^ 40) }
+{
+    if checked.class(root).is_none() {
+        return Err(OpenFault::UnknownType);
+    }
+    if limits.depth > MAX_DEPTH || limits.bytes > MAX_BYTES {
+        return Err(OpenFault::LimitOutOfRange);
+    }
+    let builder = RawBuilder::begin(alloc, checked, root, limits.depth)?;
+    Ok(Partial::new(builder))
+}
+
 /// Returns the front of the piece that the limit of bytes leaves room for.
-fn within(piece: &[u8], room: u64) -> &[u8]
+pub(crate) fn within(piece: &[u8], room: u64) -> &[u8]
     ensures { result.now ≡ take room piece.now }
 {
     &piece[..room.min(piece.len() as u64) as usize]
@@ -175,18 +202,13 @@ impl<'r, A: Allocator + Clone> Decoder<'r, A> {
             (first_of_all checked.now.types root.0 limits) result }
         ensures led { IfOk result (λ d. Led d []) }
     {
-        if checked.class(root).is_none() {
-            return Err(OpenFault::UnknownType);
-        }
-        if limits.depth > MAX_DEPTH || limits.bytes > MAX_BYTES {
-            return Err(OpenFault::LimitOutOfRange);
-        }
+        let run = first_run(alloc, checked, root, limits)?;
         Ok(Decoder {
             checked,
             root,
             limits,
             taken: 0,
-            run: Ok(Partial::new(RawBuilder::begin(alloc, checked, root, limits.depth)?)),
+            run: Ok(run),
             turns: Count::new(),
             closings: Count::new(),
             calls: Count::new(),
@@ -232,6 +254,40 @@ impl<'r, A: Allocator> Decoder<'r, A> {
         match &self.run {
             Ok(run) => run.builder().text_bytes(),
             Err(_) => 0,
+        }
+    }
+
+    /// Returns the number of open nodes: how many steps lead to the node that is next, which is its
+    /// depth. It is 0 if the value is complete, before the first piece, and after an error.
+    pub fn path_len(&self) -> usize
+        ensures len { result ≡ length (decoder_path self.now) }
+        ensures led { (b : List ℕ) → Led self.now b → PathLed self.now b }
+    {
+        match &self.run {
+            Ok(run) => run.builder().path_len(),
+            Err(_) => 0,
+        }
+    }
+
+    /// Returns the step from the open node at this depth, where the root has depth 0, or `None` if
+    /// there are no more open nodes.
+    pub fn path_step(&self, depth: usize) -> Option<PathStep>
+        ensures { result ≡ slice_get (decoder_path self.now) depth }
+    {
+        match &self.run {
+            Ok(run) => run.builder().path_step(depth),
+            Err(_) => None,
+        }
+    }
+
+    /// Returns the type of the node that is next, or `None` if the value is complete and after an
+    /// error.
+    pub fn next_type(&self) -> Option<TypeId>
+        ensures { option_map (λ t. t.0) result ≡ decoder_next self.now }
+    {
+        match &self.run {
+            Ok(run) => run.builder().walk().next_type(),
+            Err(_) => None,
         }
     }
 

@@ -121,10 +121,23 @@ StepReports old new piece (Err (stop.Refused held reported_reason at len)) =
 StepReports old new piece (Err (stop.OutOfMemory _)) = WantsMemory old piece
 StepReports old new piece (Err s) = (new ≡ old) × EndsTurns old piece s
 
--- what stands after the turns end: the same as before the last one, unless a node was rejected or
--- an allocation failed
+-- the nodes and the walk are the same, and the builder's loop has taken no turn; an open run may
+-- have more bytes, or other bytes may be carried
+pub record SameNodes (old new : Running) : Type 0 where
+  pub ty : new.built.ty ≡ old.built.ty
+  pub walk : new.built.walk ≡ old.built.walk
+  pub entries : new.built.entries ≡ old.built.entries
+  pub turns : new.built.turns ≡ old.built.turns
+
+-- if the decoder's turn stopped, the nodes are the same
+abbrev pub KeepsNodes : Running → Running → Turned → Type 0
+KeepsNodes old new (Ok n) = Unit {0}
+KeepsNodes old new _ = SameNodes old new
+
+-- what stands after the turns end: the same as before the last one; its nodes, if one was rejected;
+-- anything, if an allocation failed
 abbrev pub StandsAfter : Stopped → Running → Running → Type 0
-StandsAfter (stop.Refused held reported_reason at len) before new = Unit {0}
+StandsAfter (stop.Refused held reported_reason at len) before new = SameNodes before new
 StandsAfter (stop.OutOfMemory _) before new = Unit {0}
 StandsAfter s before new = new ≡ before
 
@@ -165,11 +178,6 @@ abbrev pub RunsOut : Running → List ℕ → ℕ → Type 0
 RunsOut old piece n = (n ≤ length piece)
     × ((last : Running) × Moves old last (take n piece) × WantsMemory last (drop n piece)
     × IsSound last)
-
--- if the decoder's turn stopped, the builder's loop has taken no turn
-abbrev pub KeepsTurns : Running → Running → Turned → Type 0
-KeepsTurns old new (Ok n) = Unit {0}
-KeepsTurns old new _ = new.built.turns ≡ old.built.turns
 
 -- between the two counts there is one turn for each node that was added and one that stopped, and
 -- at most one more for each byte that was taken
@@ -231,7 +239,7 @@ pub record TurnsReport (old new : Running) (piece : List ℕ) (from to n : ℕ) 
   pub few : FewTurns old before n from to
   pub sound : IsSound before
   pub reports : StepReports before new (drop n piece) last
-  pub kept : KeepsTurns before new last
+  pub kept : KeepsNodes before new last
   pub whole : is_complete old.built ≡ true →
       (n ≡ 0) × (before ≡ old) × (last ≡ Err stop.Finished)
 

@@ -11,7 +11,7 @@ ghost use Rattle.form_core.specs.Needs.{AreOwn, HasBytes, IsBare, IsNeeded};
 ghost use Rattle.form_core.specs.NodeForms.{form_of_bytes};
 ghost use Rattle.machine_core.specs.NodeAdds.{TakesNode};
 ghost use Rattle.machine_core.specs.Turned.{EndReports};
-ghost use Rattle.machine_core.specs.Turned.{IsSound, KeepsTurns, PieceReports};
+ghost use Rattle.machine_core.specs.Turned.{IsSound, KeepsNodes, PieceReports};
 ghost use Rattle.machine_core.specs.Turned.{StepReports, unused_stop};
 ghost use Rattle.machine_core.specs.Turned.{node_turned};
 
@@ -92,7 +92,7 @@ impl<'r, A: Allocator> Partial<'r, A> {
         requires next { next_of self.old.built.walk ≡ Next.Wants form }
         requires closed { self.old.built.run ≡ None }
         ensures reports { (piece : List ℕ) → StepReports self.old self.new piece result }
-        ensures kept { KeepsTurns self.old self.new result }
+        ensures kept { KeepsNodes self.old self.new result }
     {
         match self.whole_bare(form) {
             Tried::Added(count) => Ok(count),
@@ -111,7 +111,7 @@ impl<'r, A: Allocator> Partial<'r, A> {
         requires short { length self.old.carry < len }
         requires bound { len ≤ 32 }
         ensures reports { StepReports self.old self.new piece.now result }
-        ensures kept { KeepsTurns self.old self.new result }
+        ensures kept { KeepsNodes self.old self.new result }
     {
         let held = self.carry.as_slice().len();
         let count = self.carry.fill(len, piece);
@@ -131,7 +131,7 @@ impl<'r, A: Allocator> Partial<'r, A> {
         requires closed { self.old.built.run ≡ None }
         requires carried { IsCarry self.old.built self.old.carry }
         ensures reports { StepReports self.old self.new piece.now result }
-        ensures kept { KeepsTurns self.old self.new result }
+        ensures kept { KeepsNodes self.old self.new result }
     {
         if piece.is_empty() {
             return Err(Stopped::Wants);
@@ -146,7 +146,7 @@ impl<'r, A: Allocator> Partial<'r, A> {
         requires closed { self.old.built.run ≡ None }
         requires carried { IsCarry self.old.built self.old.carry }
         ensures reports { StepReports self.old self.new piece.now result }
-        ensures kept { KeepsTurns self.old self.new result }
+        ensures kept { KeepsNodes self.old self.new result }
     {
         match self.whole_byte_array(len, piece) {
             Tried::Added(count) => return Ok(count),
@@ -167,7 +167,7 @@ impl<'r, A: Allocator> Partial<'r, A> {
         requires next { IsRunNext self.old.built self.old.carry self.old.built.run }
         requires open { IsSome self.old.built.run }
         ensures reports { StepReports self.old self.new piece.now result }
-        ensures kept { KeepsTurns self.old self.new result }
+        ensures kept { KeepsNodes self.old self.new result }
     {
         let missing = self.builder.run_missing();
         if missing == 0 {
@@ -210,7 +210,7 @@ impl<'r, A: Allocator> Partial<'r, A> {
         requires some { 1 ≤ length rest.now }
         ensures reports { (later : List ℕ) →
             StepReports self.old self.new (rest.now ++ later) result }
-        ensures kept { KeepsTurns self.old self.new result }
+        ensures kept { KeepsNodes self.old self.new result }
     {
         if let Err(refused) = self.builder.extend_run(rest) {
             return Err(Stopped::OutOfMemory(refused));
@@ -226,7 +226,7 @@ impl<'r, A: Allocator> Partial<'r, A> {
         requires some { 1 ≤ missing }
         requires there { 1 ≤ length piece.now }
         ensures reports { PieceReports self.old self.new piece.now result }
-        ensures kept { KeepsTurns self.old self.new result }
+        ensures kept { KeepsNodes self.old self.new result }
     {
         let count = piece.len().min(missing);
         if let Err(refused) = self.builder.extend_run(&piece[..count]) {
@@ -241,7 +241,7 @@ impl<'r, A: Allocator> Partial<'r, A> {
         requires whole { RunLacks self.old.built.run 0 }
         requires last { count ≤ length (pieces_bytes self.old.built.run) }
         ensures reports { EndReports self.old self.new count result }
-        ensures kept { KeepsTurns self.old self.new result }
+        ensures kept { KeepsNodes self.old self.new result }
     {
         if let Some(valid) = self.builder.bad_text() {
             let run_len = self.builder.run_len();
@@ -266,7 +266,7 @@ impl<'r, A: Allocator> Partial<'r, A> {
         requires closed { self.old.built.run ≡ None }
         requires carried { IsCarry self.old.built self.old.carry }
         ensures reports { StepReports self.old self.new piece.now result }
-        ensures kept { KeepsTurns self.old self.new result }
+        ensures kept { KeepsNodes self.old self.new result }
     {
         if let Some(own) = bytes_form(form) {
             return self.own_turn(own, piece);
@@ -281,7 +281,7 @@ impl<'r, A: Allocator> Partial<'r, A> {
     #[inline(never)]
     pub(crate) fn turn(&mut self, piece: &[u8]) -> Result<usize, Stopped>
         ensures reports { StepReports self.old self.new piece.now result }
-        ensures kept { KeepsTurns self.old self.new result }
+        ensures kept { KeepsNodes self.old self.new result }
         ensures sound { IsSound self.old }
         ensures whole { is_complete self.old.built ≡ true → result ≡ Err Stopped.Finished }
     {

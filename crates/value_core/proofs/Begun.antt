@@ -25,7 +25,9 @@ use Rattle.grammar_core.specs.declared.form.StopReason.TheVariants as stop
 use Rattle.grammar_core.specs.declared.form.Next.TheVariants as next
 use Rattle.grammar_core.proofs.Begun.{begun_trees_fit}
 use Rattle.node_core.specs.Shown.{cell_shown, cells_shown}
+use Rattle.value_core.specs.OpenNodes.{path_of}
 use Rattle.value_core.specs.Spine.{OpenNode, open_cells, open_part, Spine}
+use Rattle.value_core.specs.declared.open_nodes.PathStep.{PathStep}
 use Rattle.grammar_core.specs.Cells.{part_of}
 use Rattle.value_core.specs.Walked.{OpenPart, Walked}
 use Rattle.value_core.specs.Built.{Pieces, IsSettled, entries_shown}
@@ -40,14 +42,16 @@ use Rattle.node_core.proofs.CellsOf.{all_cells_preorder}
 use Rattle.value_core.proofs.Finished.{heads_text, heads_text-append, text_of_preorder}
 use Rattle.value_core.proofs.Finished.{text_of_all_preorder, text_of_entries}
 use Rattle.value_core.proofs.OwnBytes.{spine_bytes}
+use Rattle.value_core.proofs.Paths.{path_opened, spine_path, step_of}
 use Rattle.value_core.proofs.Spines.{is_cons, spine_is_whole, spine_length}
 
 -- ---- all open nodes
 
--- a begun tree of which something is missing, with these nodes and bytes
-abbrev BegunAs : List TypeInfo → ℕ → ℕ → List Head → List ℕ → Option (ℕ × ℕ) → Type 0
-BegunAs r top t hs own next = (g : Begun) × Grows r top t g own next × IsPart g
-    × (hs ≡ begun_preorder g)
+-- a begun tree of which something is missing, with these nodes and bytes and this path
+abbrev pub BegunAs : List TypeInfo → ℕ → ℕ → List Head → List ℕ → Option (ℕ × ℕ) →
+    List PathStep → Type 0
+BegunAs r top t hs own next path = (g : Begun) × Grows r top t g own next × IsPart g
+    × (hs ≡ begun_preorder g) × (path_of r t g ≡ path)
 
 -- the innermost open node, its whole children and what follows stand after the nodes before it
 heads_after : (r : List TypeInfo) (o : OpenNode) (cs cs1 : List Cell) (hs : List Head) →
@@ -66,13 +70,14 @@ plugged : (r : List TypeInfo) (top room t : ℕ) (os : List OpenNode) (f : OpenP
     (next : Option (ℕ × ℕ)) → room + length os ≡ top → Spine r room t os (f ∷ fs) cs own →
     first_of f.left ≡ Some w → Grows r room w g c next → IsPart g →
     BegunAs r top t (bare_heads cs ++ begun_preorder g) (own ++ c) next
+    (spine_path os ++ path_of r w g)
 unfolding Grows
 plugged r top room t [] f fs cs own w g c next e (inl h) first k part =
     let parts = is_cons f (open_part 0 (times 1 t)) fs [] h.0 in
     let same : t ≡ w = same_Some t w (sym (ap (λ (x : OpenPart). first_of x.left) parts.0)
     ∙ first) in
     let level : top ≡ room = omega (arith, e) in
-    (g, rw (h.2, same, level) k, part, rw h.1 refl)
+    (g, rw (h.2, same, level) k, part, rw h.1 refl, rw same refl)
 plugged r top room t [] f fs cs own w g c next e (inr h) first k part =
     let parts = is_cons f (open_part 0 (times 0 t)) fs [] h.1 in
     let no : None ≡ Some w = sym (ap (λ (x : OpenPart). first_of x.left) parts.0) ∙ first in
@@ -85,25 +90,30 @@ plugged r top room t (o ∷ os) f fs cs own w g c next e h first k part =
     (open_branch o.kind o.all o.done g) (o.own ++ c) next (omega (arith, e)) h.8 h.7
     (h.0, w, o.own, c, h.9.0, h.9.1, h.10, is_next, refl, part, k) tt in
     let shows = heads_after r o cs h.4 (begun_preorder g) h.11 ∙ g'.3 in
-    (g'.0, rw (h.12, append_assoc) g'.1, g'.2, shows)
+    let path = g'.4 ∙ ap (λ (x : List PathStep). spine_path os ++ x)
+    (path_opened r o h.0 w g h.9 is_next)
+    ∙ sym (append_assoc (spine_path os) (step_of o ∷ []) (path_of r w g)) in
+    (g'.0, rw (h.12, append_assoc) g'.1, g'.2, shows, path)
 
--- nodes and bytes of a begun tree may be replaced by equal ones
+-- nodes, bytes and path of a begun tree may be replaced by equal ones
 same_begun : (r : List TypeInfo) (top t : ℕ) (hs hs' : List Head) (own own' : List ℕ)
-    (next : Option (ℕ × ℕ)) → hs ≡ hs' → own ≡ own' → BegunAs r top t hs own next →
-    BegunAs r top t hs' own' next
-same_begun r top t hs hs' own own' next e f h = (h.0, rw (← f) h.1, h.2, rw (← e) h.3)
+    (next : Option (ℕ × ℕ)) (path path' : List PathStep) → hs ≡ hs' → own ≡ own' →
+    path ≡ path' → BegunAs r top t hs own next path → BegunAs r top t hs' own' next path'
+same_begun r top t hs hs' own own' next path path' e f p h =
+    (h.0, rw (← f) h.1, h.2, rw (← e) h.3, h.4 ∙ p)
 
 -- where a type is next, the nodes so far are those of a begun tree that wants it
-spine_is_begun : (r : List TypeInfo) (top room t : ℕ) (os : List OpenNode) (f : OpenPart)
+pub spine_is_begun : (r : List TypeInfo) (top room t : ℕ) (os : List OpenNode) (f : OpenPart)
     (fs : List OpenPart) (cs : List Cell) (own : List ℕ) (u : ℕ) → room + length os ≡ top →
     Spine r room t os (f ∷ fs) cs own → first_of f.left ≡ Some u →
-    BegunAs r top t (bare_heads cs) own (Some (room, u))
+    BegunAs r top t (bare_heads cs) own (Some (room, u)) (spine_path os)
 unfolding Grows
 spine_is_begun r top room t os f fs cs own u e h first =
     let g = plugged r top room t os f fs cs own u nothing [] (Some (room, u)) e h first
     (refl, refl) tt in
     same_begun r top t (bare_heads cs ++ []) (bare_heads cs) (own ++ []) own (Some (room, u))
-    (append-nil (bare_heads cs)) (append-nil own) g
+    (spine_path os ++ []) (spine_path os) (append-nil (bare_heads cs)) (append-nil own)
+    (append-nil (spine_path os)) g
 
 -- ---- its counts
 
@@ -149,7 +159,7 @@ settled_short (f ∷ g ∷ fs) = by (first_of f.left) refl (settled_short (g ∷
   by None e h = rw (e, settled_in) (omega (arith, h))
 
 -- where nothing is to be closed and a node is open, a type is next in the innermost
-innermost : (f g : OpenPart) (fs : List OpenPart) → settled_in (f ∷ g ∷ fs) ≡ f ∷ g ∷ fs → (u : ℕ)
+pub innermost : (f g : OpenPart) (fs : List OpenPart) → settled_in (f ∷ g ∷ fs) ≡ f ∷ g ∷ fs → (u : ℕ)
     × (first_of f.left ≡ Some u)
 innermost f g fs h = by (first_of f.left) refl where
   by : (x : Option ℕ) → first_of f.left ≡ x → (u : ℕ) × (first_of f.left ≡ Some u)
@@ -174,12 +184,12 @@ answer_is r limit parts u = by (nat_lt (limit + 1) parts) refl where
 -- ---- what a builder holds
 
 -- nodes are the same by themselves, whether shown with their types or with sizes as well
-heads_are : (pool : List ℕ) (ns : List Node) →
+pub heads_are : (pool : List ℕ) (ns : List Node) →
     map (λ (e : Entry). e.head) (entries_shown pool ns) ≡ bare_heads (cells_shown pool ns)
 heads_are pool ns = map-map (λ (e : Entry). e.head) _ ns ∙ sym (map-map (λ (c : Cell). c.head) _ ns)
 
 -- the bytes of nodes shown with their types are those of the same nodes shown with sizes
-own_is : (r : List TypeInfo) (pool : List ℕ) (ns : List Node) (own : List ℕ) →
+pub own_is : (r : List TypeInfo) (pool : List ℕ) (ns : List Node) (own : List ℕ) →
     flat_map (cell_bytes r) (cells_shown pool ns) ≡ own →
     flat_map (λ (e : Entry). own_bytes (shape r e.ty) e.head) (entries_shown pool ns) ≡ own
 own_is r pool ns own e = flat_map-map _ _ ns

@@ -12,6 +12,8 @@ pub mod Leaves
 pub mod Members
 pub mod NextLeaf
 pub mod NextOpen
+pub mod OpenNodes
 pub mod OwnBytes
 pub mod Opened
+pub mod Paths
 pub mod Wanted

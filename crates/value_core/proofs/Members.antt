@@ -48,7 +48,7 @@ within_popped refs (g ∷ fs) f all = let rest = within_popped refs fs f all.1 i
     ((all.0, rest.0), rest.1)
 
 -- those that are left are a piece of all references
-members_are : (refs : List ℕ) (end n : ℕ) → n ≤ end → end ≤ length refs →
+pub members_are : (refs : List ℕ) (end n : ℕ) → n ≤ end → end ≤ length refs →
     members_before refs end n ≡ take n (drop (end - n) refs)
 members_are refs end zero h w = refl
 members_are refs end (suc n) h w =

@@ -3,6 +3,7 @@ pub mod Begun
 pub mod Building
 pub mod Built
 pub mod Frames
+pub mod OpenNodes
 pub mod Opened
 pub mod Refusals
 pub mod Spine

@@ -1,11 +1,13 @@
 //! Where a value goes on, and what must come there.
 
 ghost use Rattle.std.specs.Prelude.{◌≡◌, ◌⊎◌, ◌+◌, ◌≤◌, ◌++◌, [], ◌∷◌, length, is_none, vec_len};
-ghost use Rattle.std.specs.Prelude.{option_map, IfSome, IfNone, IsSome, OnOk, OnErr, vec_capacity};
+ghost use Rattle.std.specs.Prelude.{option_map, slice_get, IfSome, IfNone, IsSome, OnOk, OnErr, vec_capacity};
 ghost use Rattle.grammar_core.specs.Parts.{first_of, how_many_left};
 ghost use Rattle.widths_core.specs.Steps.{references_of};
 ghost use Rattle.value_core.specs.Ahead.{IsStepOf, elements_in, members_in};
 ghost use Rattle.node_core.specs.Remaining.{left_of, IsWithin};
+ghost use Rattle.value_core.specs.Frames.{open_part_of};
+ghost use Rattle.value_core.specs.OpenNodes.{open_parts};
 ghost use Rattle.value_core.specs.Opened.{OpensFields, OpensArm, OpensElements, IsListNext};
 ghost use Rattle.value_core.specs.Refusals.{is_whole_in};
 ghost use Rattle.value_core.specs.Walked.{start_of, next_type, next_of, depth_of, advanced, opened};
@@ -291,6 +293,42 @@ impl<'r, A: Allocator> Walk<'r, A> {
             pool.make_room_ahead(bytes)?;
         }
         nodes.make_room(1, Some(expected))
+    }
+
+    /// Returns the type of the next node, or `None` if nothing is next.
+    pub fn next_type(&self) -> Option<TypeId>
+        ensures { option_map (λ t. t.0) result ≡ next_type self.now }
+    {
+        if self.is_finished() {
+            None
+        } else {
+            Some(self.ty)
+        }
+    }
+
+    /// Returns the number of open nodes.
+    pub(crate) fn open_count(&self) -> usize
+        ensures { result ≡ length (open_parts self.now.frames) }
+    {
+        self.around.len()
+    }
+
+    /// Returns the open node at this depth, and how many of its parts are begun, none of which
+    /// remains: 1, but 0 for the innermost.
+    pub(crate) fn open_at(&self, depth: usize) -> Option<(Frame, u32)>
+        ensures part { option_map (λ x. (open_part_of self.now.types x.0, x.1)) result
+            ≡ slice_get (open_parts self.now.frames) depth }
+        ensures counts { IfSome result
+            (λ x. how_many_left (left_of self.now.types x.0.left) ≡ x.0.left.count) }
+    {
+        let count = self.around.len();
+        if depth >= count {
+            return None;
+        }
+        if depth + 1 == count {
+            return Some((self.top, 0));
+        }
+        Some((self.around.get(depth + 1), 1))
     }
 
     /// Returns the registry of the types.

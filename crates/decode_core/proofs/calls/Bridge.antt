@@ -49,7 +49,7 @@ front_is j b piece s n g = take_split j.bytes b piece
     ∙ ap (λ (k : ℕ). b ++ take (j.bytes - k) piece) (sym g.count)
 
 -- the own bytes of the nodes, after the turns
-moved_own : (j : Query) (b cut : List ℕ) (s last : Running) (n k : ℕ) → (g : IsGoing j b s n) →
+pub moved_own : (j : Query) (b cut : List ℕ) (s last : Running) (n k : ℕ) → (g : IsGoing j b s n) →
     (m : Moves s last (take k cut)) → b ++ cut ≡ (g.own ++ m.own) ++ (held_of last ++ drop k cut)
 moved_own j b cut s last n k g m =
     ap (λ (l : List ℕ). l ++ cut) g.is ∙ append_assoc g.own (held_of s) cut

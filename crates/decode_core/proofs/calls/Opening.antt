@@ -1,12 +1,12 @@
 -- A decoder that has taken nothing, and what the end of its input makes of one.
 use Rattle.std.proofs.Common.{◌≡◌, ℕ, suc, ◌+◌, ◌-◌, List, [], ◌++◌, length, Ok, Err, refl, sym, ap}
 use Rattle.std.proofs.Common.{subst, ◌∙◌, arith, inl, inr}
-use Rattle.std.specs.Prelude.{Result}
+use Rattle.std.specs.Prelude.{Option, Some, None, Result}
 use Rattle.std.proofs.lemmas.List.{append-nil, length-take}
 use Rattle.value_core.specs.Built.{Built, finished}
 use Rattle.node_core.specs.Shown.{Seen}
 use Rattle.decode_core.specs.Decoding.{AnswersPiece, AsksMemory, Decoding, FinishesDecoder, IsEnded}
-use Rattle.decode_core.specs.Decoding.{IsGoing}
+use Rattle.decode_core.specs.Decoding.{IsGoing, OpensDecoder}
 use Rattle.decode_core.specs.Decoding.{IsOf, Led, RunLed, built_tree, first_running}
 use Rattle.outcome_core.specs.Machine.{State, start}
 use Rattle.outcome_core.specs.Outcome.{Query, done, more, IsOutcome}
@@ -16,18 +16,25 @@ use Rattle.outcome_core.specs.Machine.{TurnsLead}
 use Rattle.decode_core.specs.declared.decoder.Progress.{Progress}
 use Rattle.decode_core.specs.declared.decoder.Progress.TheVariants as progress
 use Rattle.decode_core.specs.declared.fault.DecodeFault.{DecodeFault}
+use Rattle.decode_core.specs.declared.fault.OpenFault.{OpenFault}
 use Rattle.machine_core.specs.declared.reason.DecodeReason.TheVariants as reason
 use Rattle.machine_core.specs.declared.turned.Stopped.TheVariants as stop
 use Rattle.decode_core.proofs.calls.Bridge.{offered}
 use Rattle.decode_core.proofs.calls.Feeding.{led_done}
 use Rattle.machine_core.proofs.steps.Moving.{moves_none}
 
-abbrev first : Query → Running
+abbrev pub first : Query → Running
 first j = first_running j.registry j.ty j.depth
 
 -- a decoder that has taken nothing is in the first state of the machine
 start_is : (j : Query) → state_of (first j).built ≡ start j.depth j.ty
 start_is j = let room : j.depth + 2 - 1 ≡ suc j.depth = omega arith in rw room refl
+
+-- what is opened is the first one, and nothing forbids it
+pub opened_first : {X : Type 0} (o : Option OpenFault) (first d : X) →
+    OpensDecoder o first (Ok d) → (o ≡ None) × (d ≡ first)
+opened_first None first d h = (refl, h)
+opened_first (Some f) first d h = absurd h
 
 -- no bytes have led to it
 pub first_going : (j : Query) (s : Running) (b : Built) → s ≡ record { built = b; carry = [] } →

@@ -9,8 +9,8 @@ use Rattle.grammar_core.specs.declared.form.Form.{Form}
 use Rattle.value_core.specs.Refusals.{is_complete}
 use Rattle.machine_core.specs.Running.{Running}
 use Rattle.machine_core.specs.Turned.{Awaits, CallSoFar, FeedReports, FeedTells, FewTurns}
-use Rattle.machine_core.specs.Turned.{IsReady, IsSound, KeepsTurns, Moves, StepReports}
-use Rattle.machine_core.specs.Turned.{StopCounts}
+use Rattle.machine_core.specs.Turned.{IsReady, IsSound, KeepsNodes, Moves, SameNodes}
+use Rattle.machine_core.specs.Turned.{StepReports, StopCounts}
 use Rattle.machine_core.specs.Turned.{StopsShort, TurnsReport}
 use Rattle.machine_core.specs.Turned.{WantsBytes, WholeReports, WholeTurnsReport, left_to_do}
 use Rattle.machine_core.specs.declared.turned.Stopped.{Stopped}
@@ -92,10 +92,19 @@ whole_of b d piece at from to n last is e k =
     subst (λ (t : Tried). WholeTurnsReport b d (drop at piece) from to n t) e
     (subst (λ (l : List ℕ). WholeTurnsReport b d l from to n last) (take_rest piece at) k)
 
+-- nothing changed, so no node did
+pub same_nodes : (a b : Running) → b ≡ a → SameNodes a b
+same_nodes a b e = record {
+  ty = ap (λ (s : Running). s.built.ty) e;
+  walk = ap (λ (s : Running). s.built.walk) e;
+  entries = ap (λ (s : Running). s.built.entries) e;
+  turns = ap (λ (s : Running). s.built.turns) e;
+}
+
 -- turns on whole nodes, and what the turn after them reports, are the turns of a call
 turns_with : (b x d : Running) (piece : List ℕ) (from to n : ℕ) (read : Tried) (last : Turned)
     (w : WholeTurnsReport b x piece from to n read) → StepReports w.before d (drop n piece) last →
-    KeepsTurns w.before d last → (is_complete b.built ≡ true →
+    KeepsNodes w.before d last → (is_complete b.built ≡ true →
     (n ≡ 0) × (w.before ≡ b) × (last ≡ Err stop.Finished)) →
     TurnsReport b d piece from to n last
 turns_with b x d piece from to n read last w reports kept whole = record {
@@ -130,7 +139,7 @@ whole_short b d piece at from to n last e h =
     turns_with b d d (drop at piece) from to n (tried.OutOfMemory evidence)
     (Err (stop.OutOfMemory evidence)) w
     w.reports.0
-    (ap (λ (s : Running). s.built.turns) w.reports.1)
+    (same_nodes w.before d w.reports.1)
     (λ is. let no = (w.whole is).2 in absurd cc)
 
 -- where it changed nothing, a turn of another kind is in its place
@@ -138,7 +147,7 @@ pub whole_left : (b x d : Running) (piece : List ℕ) (at from to n : ℕ) (left
     (last : Turned) → left ≡ tried.Untouched →
     WholeTurnsReport b x (take (length piece - at) (drop at piece)) from to n left →
     StepReports x d (take (length piece - (at + n)) (drop (at + n) piece)) last →
-    KeepsTurns x d last → (is_complete x.built ≡ true → last ≡ Err stop.Finished) →
+    KeepsNodes x d last → (is_complete x.built ≡ true → last ≡ Err stop.Finished) →
     TurnsReport b d (drop at piece) from to n last
 whole_left b x d piece at from to n left last e h reports kept finished =
     let w = whole_of b x piece at from to n left tried.Untouched e h in
@@ -147,7 +156,7 @@ whole_left b x d piece at from to n left last e h reports kept finished =
     (subst (λ (s : Running). StepReports s d (drop n (drop at piece)) last) w.reports
     (subst (λ (l : List ℕ). StepReports x d l last) rest
     (subst (λ (l : List ℕ). StepReports x d l last) (take_rest piece (at + n)) reports)))
-    (subst (λ (s : Running). KeepsTurns s d last) w.reports kept)
+    (subst (λ (s : Running). KeepsNodes s d last) w.reports kept)
     (λ is. (
       (w.whole is).0,
       (w.whole is).1,
@@ -241,7 +250,7 @@ call_stops a b d piece at from to n s le h t =
     turns_stop a t.before d piece (at + n) s
     (fits b d piece at from to n (Err s) le t)
     (reached a b t.before piece at n h t.moves)
-    (last_reports b d piece at from to n (Err s) t) t.sound
+    (last_reports b d piece at from to n (Err s) t) t.kept t.sound
 
 -- ---- how many turns these are
 
@@ -310,9 +319,9 @@ call_counts a b d piece at start from to n (stop.Refused held reported_reason pl
     le h each few t =
     short a b d piece at start from to n
     (Err (stop.Refused held reported_reason place len))
-    le h each few t t.kept
+    le h each few t t.kept.turns
 call_counts a b d piece at start from to n (stop.OutOfMemory _) le h each few t =
-    short a b d piece at start from to n (Err (stop.OutOfMemory evidence)) le h each few t t.kept
+    short a b d piece at start from to n (Err (stop.OutOfMemory evidence)) le h each few t t.kept.turns
 
 -- ---- a value that was whole
 

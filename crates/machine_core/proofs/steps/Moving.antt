@@ -14,8 +14,8 @@ use Rattle.value_core.specs.Walked.{OpenPart, first_in, next_from, next_of}
 use Rattle.outcome_core.specs.Machine.{State, remain, to_go}
 use Rattle.machine_core.specs.Running.{Running, held_of, state_of}
 use Rattle.outcome_core.specs.Reported.{after}
-use Rattle.machine_core.specs.Turned.{FeedReports, IsSame, IsSound, Moves, StepReports}
-use Rattle.machine_core.specs.Turned.{Steps}
+use Rattle.machine_core.specs.Turned.{FeedReports, IsSame, IsSound, KeepsNodes, Moves}
+use Rattle.machine_core.specs.Turned.{StepReports, Steps}
 use Rattle.machine_core.specs.Turned.{left_to_do, types_in}
 use Rattle.machine_core.specs.declared.turned.Stopped.{Stopped}
 use Rattle.machine_core.specs.declared.turned.Stopped.TheVariants as stop
@@ -133,13 +133,13 @@ drop_more piece at n = drop-drop n at piece
 
 -- the turn that stops
 pub turns_stop : (a b c : Running) (piece : List ℕ) (at : ℕ) (s : Stopped) → at ≤ length piece →
-    Moves a b (take at piece) → StepReports b c (drop at piece) (Err s) → IsSound b →
-    FeedReports a c piece at s
-turns_stop a b c piece at stop.Finished le h k sound = (le, (b, h, k.1, k.0, sound))
-turns_stop a b c piece at stop.Wants le h k sound = (le, (b, h, k.1, k.0, sound))
-turns_stop a b c piece at (stop.OutOfMemory _) le h k sound = (le, (b, h, k, tt, sound))
-turns_stop a b c piece at (stop.Refused held reported_reason place len) le h k sound =
-    (le, (b, h, k, tt, sound))
+    Moves a b (take at piece) → StepReports b c (drop at piece) (Err s) →
+    KeepsNodes b c (Err s) → IsSound b → FeedReports a c piece at s
+turns_stop a b c piece at stop.Finished le h k kept sound = (le, (b, h, k.1, k.0, sound))
+turns_stop a b c piece at stop.Wants le h k kept sound = (le, (b, h, k.1, k.0, sound))
+turns_stop a b c piece at (stop.OutOfMemory _) le h k kept sound = (le, (b, h, k, tt, sound))
+turns_stop a b c piece at (stop.Refused held reported_reason place len) le h k kept sound =
+    (le, (b, h, k, kept, sound))
 
 -- a whole value has one turn, which stops
 pub stays_whole : (fn self : Running) (at : ℕ) →

@@ -1,8 +1,8 @@
-use Rattle.std.proofs.Common.{◌≡◌, ◌∙◌, [], ap, arith, length, inl}
-use Rattle.value_core.specs.Built.{Built}
+use Rattle.std.proofs.Common.{◌≡◌, [], ap, arith, inl, length, refl}
 use Rattle.outcome_core.specs.Outcome.{Query}
+use Rattle.decode_core.specs.Decoding.{opening_fault}
 use Rattle.machine_core.specs.Running.{Running}
-use Rattle.decode_core.proofs.calls.Opening.{first_going}
+use Rattle.decode_core.proofs.calls.Opening.{first, first_going, opened_first}
 use Rattle.decode_core.proofs.decoder.Decoder.new.Goals as goal
 
 pub invariant_of-result : goal.invariant_of-result
@@ -14,20 +14,17 @@ invariant_of-result g c =
           c.args.limits.depth;
       bytes = c.args.limits.bytes;
     } in
-    let first = c.in_ok-begin.ensures in
-    let going = first_going j c.new.result c.in_ok-begin.field-0 c.new.ensures first in
-    let nodes : length c.new.result.built.entries ≡ 0 =
-    ap (λ (r : Running). length r.built.entries) c.new.ensures
-    ∙ ap (λ (b : Built). length b.entries) first in
-    let closed : c.new.result.built.turns ≡ 0 =
-    ap (λ (r : Running). r.built.turns) c.new.ensures ∙ ap (λ (b : Built). b.turns) first in
+    let run = c.in_ok-run.run' in
+    let is : run ≡ first j = (opened_first (opening_fault j.registry j.ty c.args.limits) (first j) run c.in_ok-run.ensures.opens).1 in
+    let nodes : length run.built.entries ≡ 0 = ap (λ (r : Running). length r.built.entries) is in
+    let closed : run.built.turns ≡ 0 = ap (λ (r : Running). r.built.turns) is in
     record {
-      limit = omega (arith, c.if-limits-gt-MAX_BYTES.false);
+      limit = c.in_ok-run.ensures.limit;
       bytes = [];
-      led = inl going;
+      led = inl (first_going j run (first j).built is refl);
       counted = (
-        omega (arith, nodes, closed, c.new-2.ensures, c.new-4.ensures),
-        omega (arith, nodes, closed, c.new-2.ensures, c.new-4.ensures),
+        omega (arith, nodes, closed, c.new.ensures, c.new-3.ensures),
+        omega (arith, nodes, closed, c.new.ensures, c.new-3.ensures),
       );
     }
 
@@ -40,4 +37,6 @@ returns-clause-led g c =
           c.args.limits.depth;
       bytes = c.args.limits.bytes;
     } in
-    inl (first_going j c.new.result c.in_ok-begin.field-0 c.new.ensures c.in_ok-begin.ensures)
+    let run = c.in_ok-run.run' in
+    inl (first_going j run (first j).built
+    (opened_first (opening_fault j.registry j.ty c.args.limits) (first j) run c.in_ok-run.ensures.opens).1 refl)

@@ -1,9 +1,9 @@
-use Rattle.std.proofs.Common.{[], ap, subst}
+use Rattle.std.proofs.Common.{[], subst}
 use Rattle.growth_core.specs.Evidence.{evidence}
-use Rattle.machine_core.specs.Running.{Running}
 use Rattle.machine_core.specs.Turned.{WholeReports}
 use Rattle.machine_core.specs.declared.turned.Tried.{Tried}
 use Rattle.machine_core.specs.declared.turned.Tried.TheVariants as tried
+use Rattle.machine_core.proofs.steps.Calls.{same_nodes}
 use Rattle.machine_core.proofs.partial.Partial.bare_turn.Goals as goal
 
 pub returns-in-Added-clause-reports : goal.returns-in-Added-clause-reports
@@ -16,4 +16,4 @@ returns-in-OutOfMemory-clause-kept g c =
     let wants : WholeReports c.args.self.now c.whole_bare.new.self [] (tried.OutOfMemory evidence) =
     subst (λ (t : Tried). WholeReports c.args.self.now c.whole_bare.new.self [] t)
     c.in-OutOfMemory.is (c.whole_bare.ensures.reports []) in
-    ap (λ (s : Running). s.built.turns) wants.1
+    same_nodes c.args.self.now c.whole_bare.new.self wants.1

@@ -1,7 +1,8 @@
 use Rattle.std.proofs.Common.{◌+◌, ◌-◌, length, take, drop, refl}
 use Rattle.growth_core.specs.Evidence.{evidence}
 use Rattle.machine_core.specs.declared.turned.Stopped.TheVariants as stop
-use Rattle.machine_core.proofs.steps.Calls.{call_nearer, call_on, left_so_far, tells_stopped}
+use Rattle.machine_core.proofs.steps.Calls.{call_nearer, call_on, left_so_far, same_nodes}
+use Rattle.machine_core.proofs.steps.Calls.{tells_stopped}
 use Rattle.machine_core.proofs.steps.Calls.{tells_wants, whole_added, whole_left, whole_short}
 use Rattle.machine_core.proofs.steps.Moving.{wants_goes_on}
 use Rattle.machine_core.proofs.partial.Partial.feed.Goals as goal
@@ -54,7 +55,8 @@ returns-then-is_finished g c =
     c.turns.invariant.so_far
     (whole_left c.turns.self w.new.self w.new.self c.args.piece.now c.turns.at
     c.turns.turns.so_far w.new.turns.so_far w.result.0 w.result.1 (Err stop.Finished)
-    c.in-Untouched.is w.ensures (refl, c.if-is_finished.ensures.ends refl rest) refl (λ is. refl))
+    c.in-Untouched.is w.ensures (refl, c.if-is_finished.ensures.ends refl rest)
+    (same_nodes w.new.self w.new.self refl) (λ is. refl))
 
 pub returns-in-Err : goal.returns-in-Err
 returns-in-Err g c =

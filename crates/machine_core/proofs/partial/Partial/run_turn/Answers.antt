@@ -1,11 +1,10 @@
-use Rattle.std.proofs.Common.{◌≡◌, ◌∙◌, ◌≤◌, None, ap, arith, rules, sym, take, List, ℕ, drop, refl}
+use Rattle.std.proofs.Common.{◌∙◌, ◌≤◌, ap, arith, rules, sym, List, ℕ, drop, refl}
 use Rattle.std.proofs.Common.{subst}
 use Rattle.std.proofs.lemmas.List.{length-take, take-append-drop}
-use Rattle.value_core.specs.Built.{unused_in}
 use Rattle.machine_core.specs.Turned.{StepReports, WantsBytes, unused_stop}
 use Rattle.machine_core.proofs.steps.RunEnds.{end_reports}
 use Rattle.machine_core.proofs.steps.TurnReports.{none_of, some_missing}
-use Rattle.machine_core.proofs.steps.OpenRuns.{is_open, run_waits, take_min}
+use Rattle.machine_core.proofs.steps.OpenRuns.{is_open, run_waits}
 use Rattle.machine_core.proofs.steps.UnusedBits.{clean_missing, unused_step}
 use Rattle.machine_core.specs.Running.{Running}
 use Rattle.std.specs.Prelude.{Err}
