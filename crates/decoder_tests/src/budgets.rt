@@ -69,6 +69,16 @@ fn a_refusal_of_the_other_allocator_takes_no_bytes(rt: HostRuntime) {
     check_left(&rt, &budget, 136);
 }
 
+// A block of some mebibytes gives its bytes back like any other.
+#[test]
+fn a_large_block_gives_its_bytes_back(rt: HostRuntime) {
+    let budget = Budget::new(rt.alloc(), 4 << 20).expect(&rt, "a budget");
+    let large = block(&budget, 3 << 20).expect(&rt, "a block");
+    assert!(rt; block(&budget, 2 << 20).is_err());
+    drop(large);
+    assert!(rt; block(&budget, 4 << 20).is_ok());
+}
+
 #[test]
 fn zero_bytes_stand_for_no_budget(rt: HostRuntime) {
     let budget = Budget::new(rt.alloc(), 0).expect(&rt, "a budget");
