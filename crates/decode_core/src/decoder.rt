@@ -12,8 +12,8 @@ ghost use Rattle.decode_core.specs.Decoding.{FedAsks, FedCounts, FedTakes, Finis
 ghost use Rattle.decode_core.specs.Decoding.{HasCounted, HasValue, HoldsAt, IsKept, IsLedTo};
 ghost use Rattle.decode_core.specs.Decoding.{IsSmall, IsSmallAtEnd, IsSmallValue, Led, LoopCounted};
 ghost use Rattle.decode_core.specs.Decoding.{OpensDecoder, RunAnswers, RunLed, closing_turns};
-ghost use Rattle.decode_core.specs.Decoding.{first_of_all, first_running, node_count, opening_fault};
-ghost use Rattle.decode_core.specs.Decoding.{text_bytes};
+ghost use Rattle.decode_core.specs.Decoding.{first_of_all, first_running, node_count};
+ghost use Rattle.decode_core.specs.Decoding.{opening_fault, text_bytes};
 ghost use Rattle.decode_core.specs.Paths.{PathLed, decoder_next, decoder_path};
 ghost use Rattle.graph_core.specs.Widths.{widest};
 

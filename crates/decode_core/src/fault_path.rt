@@ -3,6 +3,7 @@
 ghost use Rattle.std.specs.Prelude.{◌≡◌, length, option_map, slice_get};
 ghost use Rattle.decode_core.specs.Decoding.{opening_fault};
 ghost use Rattle.decode_core.specs.Paths.{FindsPath};
+ghost use Rattle.decode_core.specs.Streaming.{query_of};
 ghost use Rattle.value_core.specs.OpenNodes.{HasPath, open_path};
 ghost use Rattle.value_core.specs.Walked.{next_type};
 
@@ -33,7 +34,7 @@ impl<'r, A: Allocator> Model for FaultPath<'r, A> {
 }
 
 impl<'r, A: Allocator + Clone> FaultPath<'r, A> {
-    /// Reads bytes as a decoder of a value of the root's type would, up to the limit of bytes, until
+    /// Reads bytes as a decoder of a value of the root's type does, up to the limit of bytes, until
     /// they are rejected or end. Bytes after an error change nothing.
     ///
     /// # Errors
@@ -47,12 +48,8 @@ impl<'r, A: Allocator + Clone> FaultPath<'r, A> {
         limits: Limits,
         bytes: &[u8],
     ) -> Result<FaultPath<'r, A>, OpenFault>
-        ensures { FindsPath (opening_fault checked.now.types root.0 limits) (record {
-          registry = checked.now.types;
-          ty = root.0;
-          depth = limits.depth;
-          bytes = limits.bytes;
-        }) bytes.now result }
+        ensures { FindsPath (opening_fault checked.now.types root.0 limits)
+            (query_of checked.now.types root.0 limits) bytes.now result }
     {
         let mut run = first_run(alloc, checked, root, limits)?;
         let mut turns = Count::new();

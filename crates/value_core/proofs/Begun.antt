@@ -159,8 +159,8 @@ settled_short (f ∷ g ∷ fs) = by (first_of f.left) refl (settled_short (g ∷
   by None e h = rw (e, settled_in) (omega (arith, h))
 
 -- where nothing is to be closed and a node is open, a type is next in the innermost
-pub innermost : (f g : OpenPart) (fs : List OpenPart) → settled_in (f ∷ g ∷ fs) ≡ f ∷ g ∷ fs → (u : ℕ)
-    × (first_of f.left ≡ Some u)
+pub innermost : (f g : OpenPart) (fs : List OpenPart) →
+    settled_in (f ∷ g ∷ fs) ≡ f ∷ g ∷ fs → (u : ℕ) × (first_of f.left ≡ Some u)
 innermost f g fs h = by (first_of f.left) refl where
   by : (x : Option ℕ) → first_of f.left ≡ x → (u : ℕ) × (first_of f.left ≡ Some u)
   by (Some u) e = (u, e)

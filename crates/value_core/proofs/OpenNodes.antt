@@ -25,7 +25,7 @@ use Rattle.value_core.specs.Frames.{AreWithin, frames_of, open_part_of}
 use Rattle.value_core.specs.OpenNodes.{HasPath, arm_in, open_parts}
 use Rattle.value_core.specs.OpenNodes.{outer_parts, path_of, step_before, step_in}
 use Rattle.value_core.specs.Spine.{OpenNode, open_cell, open_cells, IsOpen, open_part, Spine}
-use Rattle.value_core.specs.Walked.{OpenPart, Walked, first_in}
+use Rattle.value_core.specs.Walked.{OpenPart, Walked, depth_from, depth_of, first_in}
 use Rattle.value_core.specs.declared.open_nodes.PathStep.{PathStep}
 use Rattle.value_core.proofs.Begun.{heads_are, innermost, is_begun, own_is, spine_is_begun}
 use Rattle.value_core.proofs.Members.{members_are}
@@ -46,6 +46,7 @@ outer_snoc (x ∷ []) z = refl
 outer_snoc (x ∷ y ∷ ys) z = ap (λ (l : List OpenPart). l ++ x ∷ []) (outer_snoc (y ∷ ys) z)
     ∙ sym (reverse-append (x ∷ []) (y ∷ ys))
 
+-- where at least one part follows the first one, the last of these is the root's
 open_snoc : (f : OpenPart) (xs : List OpenPart) (z : OpenPart) →
     open_parts (f ∷ (xs ++ z ∷ []))
     ≡ map outer_part (outer_parts (xs ++ z ∷ [])) ++ (f, 0) ∷ []
@@ -68,6 +69,7 @@ shown_open r top [] = []
 shown_open r top (a ∷ fs) = map outer_part (map (open_part_of r) fs)
     ++ (open_part_of r top, 0) ∷ []
 
+-- they are those that are kept around the innermost one, and that one
 open_is : (r : List TypeInfo) (top : Frame) (around : List Frame) →
     open_parts (frames_of r top around) ≡ shown_open r top around
 open_is r top [] = refl
@@ -104,6 +106,7 @@ at_outer r [] last n f e = absurd cc
 at_outer r (g ∷ fs) last zero f e = let same : Some g ≡ Some f = e in cc
 at_outer r (g ∷ fs) last (suc n) f e = at_outer r fs last n f e
 
+-- and the last one after all of them
 at_inner : (r : List TypeInfo) (fs : List Frame) (last : OpenPart × ℕ) (n : ℕ) → length fs ≡ n →
     slice_get (map outer_part (map (open_part_of r) fs) ++ last ∷ []) n
     ≡ Some last
@@ -112,6 +115,7 @@ at_inner r [] last (suc n) h = absurd (omega (arith, h))
 at_inner r (g ∷ fs) last zero h = absurd (omega (arith, h))
 at_inner r (g ∷ fs) last (suc n) h = at_inner r fs last n (omega (arith, h))
 
+-- a node around the innermost one, by its depth
 pub open_outer : (r : List TypeInfo) (top : Frame) (around : List Frame) (n : ℕ) (f : Frame) →
     slice_get around (suc n) ≡ Some f →
     slice_get (open_parts (frames_of r top around)) n ≡ Some (open_part_of r f, 1)
@@ -120,6 +124,7 @@ open_outer r top (a ∷ fs) n f e =
     ap (λ (l : List (OpenPart × ℕ)). slice_get l n) (open_is r top (a ∷ fs))
     ∙ at_outer r fs (open_part_of r top, 0) n f e
 
+-- the innermost one
 pub open_inner : (r : List TypeInfo) (top : Frame) (around : List Frame) (n : ℕ) →
     length around ≡ suc n →
     slice_get (open_parts (frames_of r top around)) n ≡ Some (open_part_of r top, 0)
@@ -149,6 +154,33 @@ left_within refs [] n f all e = absurd cc
 left_within refs (g ∷ fs) zero f all e =
     subst (λ (x : Frame). IsWithin refs x.left) (same_Some g f e) all.0
 left_within refs (g ∷ fs) (suc n) f all e = left_within refs fs n f all.1 e
+
+-- all but the root's part are around the innermost one or are it
+outer_counted : (f : OpenPart) (fs : List OpenPart) → length (outer_parts (f ∷ fs)) ≡ length fs
+outer_counted f [] = refl
+outer_counted f (g ∷ fs) =
+    omega (arith, length-append (outer_parts (g ∷ fs)) (f ∷ []), outer_counted g fs)
+
+-- where only whole nodes are closed, as many are open as the next one is deep
+pub depth_is : (w : Walked) → settled_in w.frames ≡ w.frames →
+    depth_of w ≡ length (open_parts w.frames)
+depth_is w s = by w.frames s where
+  alone : (o : Option ℕ) → depth_from 1 o ≡ 0
+  alone (Some t) = refl
+  alone None = refl
+
+  by : (fs : List OpenPart) → settled_in fs ≡ fs →
+      depth_from (length fs) (first_in fs) ≡ length (open_parts fs)
+  by [] s = refl
+  by (f ∷ []) s = alone (first_of f.left)
+  by (f ∷ g ∷ fs) s =
+      let next = innermost f g fs s in
+      rw next.1 (omega (
+        arith,
+        length-append (map outer_part (outer_parts (g ∷ fs))) ((f, 0) ∷ []),
+        length-map (outer_parts (g ∷ fs)) outer_part,
+        outer_counted g fs,
+      ))
 
 -- ---- the steps by the nodes
 
@@ -310,6 +342,7 @@ whole_has_path b f is e h =
           (subst (Grows b.walk.types (b.walk.limit + 1) b.ty h.tree (built_bytes b)) none h.grows));
     }
 
+-- the same by the fields of its walk
 path_by : (ty : ℕ) (types : List TypeInfo) (limit : ℕ) (fs : List OpenPart) (pool : List ℕ)
     (ns : List Node) (text_len : ℕ) (run : Option Pieces) (turns : ℕ) →
     IsBuilding ty (record { types = types; limit = limit; frames = fs }) pool ns text_len →
@@ -367,15 +400,14 @@ has_path ty w pool ns text_len run turns b paid s =
 
 -- the step at a depth, by the kept nodes
 pub step_found : (pool : List ℕ) (ns : List Node) (frames : List OpenPart) (p : OpenPart)
-    (begun left depth : ℕ) (node : Option Node) (found : PathStep) →
-    Some (p, begun) ≡ slice_get (open_parts frames) depth → node ≡ slice_get ns p.node →
-    how_many_left p.left ≡ left →
-    found ≡ step_before (option_map (entry_shown pool) node) (left + begun) →
+    (begun left depth : ℕ) (found : PathStep) →
+    Some (p, begun) ≡ slice_get (open_parts frames) depth → how_many_left p.left ≡ left →
+    found ≡ step_before (option_map (entry_shown pool) (slice_get ns p.node)) (left + begun) →
     Some found ≡ slice_get (map (step_in (entries_shown pool ns)) (open_parts frames)) depth
-step_found pool ns frames p begun left depth node found part at count is =
+step_found pool ns frames p begun left depth found part count is =
     let es = entries_shown pool ns in
-    let here : option_map (entry_shown pool) node ≡ slice_get es p.node =
-    ap (option_map (entry_shown pool)) at ∙ sym (slice_get-map (entry_shown pool) ns p.node) in
+    let here : option_map (entry_shown pool) (slice_get ns p.node) ≡ slice_get es p.node =
+    sym (slice_get-map (entry_shown pool) ns p.node) in
     ap Some (is ∙ ap (λ (e : Option Entry). step_before e (left + begun)) here
     ∙ ap (λ (k : ℕ). step_before (slice_get es p.node) (k + begun)) (sym count))
     ∙ ap (option_map (step_in es)) part ∙ sym (slice_get-map (step_in es) (open_parts frames) depth)

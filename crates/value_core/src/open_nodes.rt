@@ -20,20 +20,14 @@ pub struct PathStep {
     pub part: u32,
 }
 
-/// Returns the node at a position, if there is one.
-fn node_at(nodes: &[Node], at: usize) -> Option<Node>
-    ensures { result ≡ slice_get nodes.now at }
-{
-    nodes.get(at).copied()
-}
-
-/// Returns the step to the part of a node after which `left` and `begun` parts are to come.
-fn step_before(node: Option<Node>, left: u32, begun: u32) -> PathStep
+/// Returns the step to the part of the node at a position after which `left` and `begun` parts are
+/// to come.
+fn step_before(nodes: &[Node], at: usize, left: u32, begun: u32) -> PathStep
     ensures { (pool : List ℕ) → result ≡ step_before (option_map
-        (λ n. record { ty = n.ty.0; head = head_shown pool n.children n.content }) node)
-        (left + begun) }
+        (λ n. record { ty = n.ty.0; head = head_shown pool n.children n.content })
+        (slice_get nodes.now at)) (left + begun) }
 {
-    let Some(node) = node else {
+    let Some(node) = nodes.get(at).copied() else {
         return PathStep {
             ty: TypeId(0),
             arm: None,
@@ -59,7 +53,7 @@ impl<'r, A: Allocator> RawBuilder<'r, A> {
         ensures len { result ≡ length (open_path self.now) }
         ensures path { HasPath self.now }
     {
-        self.walk.open_count()
+        usize::from(self.walk.depth())
     }
 
     /// Returns the step from the open node at this depth, where the root has depth 0, or `None` if
@@ -72,7 +66,6 @@ impl<'r, A: Allocator> RawBuilder<'r, A> {
         ensures path { HasPath self.now }
     {
         let (frame, begun) = self.walk.open_at(depth)?;
-        let node = node_at(self.nodes.as_slice(), frame.node);
-        Some(step_before(node, frame.left.count, begun))
+        Some(step_before(self.nodes.as_slice(), frame.node, frame.left.count, begun))
     }
 }

@@ -1,7 +1,8 @@
 //! Where a value goes on, and what must come there.
 
 ghost use Rattle.std.specs.Prelude.{◌≡◌, ◌⊎◌, ◌+◌, ◌≤◌, ◌++◌, [], ◌∷◌, length, is_none, vec_len};
-ghost use Rattle.std.specs.Prelude.{option_map, slice_get, IfSome, IfNone, IsSome, OnOk, OnErr, vec_capacity};
+ghost use Rattle.std.specs.Prelude.{option_map, slice_get, IfSome, IfNone, IsSome, OnOk, OnErr};
+ghost use Rattle.std.specs.Prelude.{vec_capacity};
 ghost use Rattle.grammar_core.specs.Parts.{first_of, how_many_left};
 ghost use Rattle.widths_core.specs.Steps.{references_of};
 ghost use Rattle.value_core.specs.Ahead.{IsStepOf, elements_in, members_in};
@@ -304,13 +305,6 @@ impl<'r, A: Allocator> Walk<'r, A> {
         } else {
             Some(self.ty)
         }
-    }
-
-    /// Returns the number of open nodes.
-    pub(crate) fn open_count(&self) -> usize
-        ensures { result ≡ length (open_parts self.now.frames) }
-    {
-        self.around.len()
     }
 
     /// Returns the open node at this depth, and how many of its parts are begun, none of which

@@ -95,6 +95,7 @@ abbrev pub IsAnswer : Stopped → Type 0
 IsAnswer (stop.OutOfMemory _) = ⊥
 IsAnswer _ = Unit {0}
 
+-- a stop that is none, by all others
 pub is_answer : (why : Stopped) → ((x : Refused) → why ≡ stop.OutOfMemory x → ⊥) → IsAnswer why
 is_answer stop.Finished h = tt
 is_answer stop.Wants h = tt

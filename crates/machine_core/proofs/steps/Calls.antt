@@ -321,7 +321,8 @@ call_counts a b d piece at start from to n (stop.Refused held reported_reason pl
     (Err (stop.Refused held reported_reason place len))
     le h each few t t.kept.turns
 call_counts a b d piece at start from to n (stop.OutOfMemory _) le h each few t =
-    short a b d piece at start from to n (Err (stop.OutOfMemory evidence)) le h each few t t.kept.turns
+    short a b d piece at start from to n (Err (stop.OutOfMemory evidence))
+    le h each few t t.kept.turns
 
 -- ---- a value that was whole
 

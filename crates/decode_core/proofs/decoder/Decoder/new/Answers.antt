@@ -1,21 +1,16 @@
 use Rattle.std.proofs.Common.{◌≡◌, [], ap, arith, inl, length, refl}
-use Rattle.outcome_core.specs.Outcome.{Query}
 use Rattle.decode_core.specs.Decoding.{opening_fault}
+use Rattle.decode_core.specs.Streaming.{query_of}
 use Rattle.machine_core.specs.Running.{Running}
 use Rattle.decode_core.proofs.calls.Opening.{first, first_going, opened_first}
 use Rattle.decode_core.proofs.decoder.Decoder.new.Goals as goal
 
 pub invariant_of-result : goal.invariant_of-result
 invariant_of-result g c =
-    let j : Query = record {
-      registry = c.args.checked.now.types;
-      ty = c.args.root.0;
-      depth =
-          c.args.limits.depth;
-      bytes = c.args.limits.bytes;
-    } in
+    let j = query_of c.args.checked.now.types c.args.root.0 c.args.limits in
     let run = c.in_ok-run.run' in
-    let is : run ≡ first j = (opened_first (opening_fault j.registry j.ty c.args.limits) (first j) run c.in_ok-run.ensures.opens).1 in
+    let fault = opening_fault j.registry j.ty c.args.limits in
+    let is : run ≡ first j = (opened_first fault (first j) run c.in_ok-run.ensures.opens).1 in
     let nodes : length run.built.entries ≡ 0 = ap (λ (r : Running). length r.built.entries) is in
     let closed : run.built.turns ≡ 0 = ap (λ (r : Running). r.built.turns) is in
     record {
@@ -30,13 +25,8 @@ invariant_of-result g c =
 
 pub returns-clause-led : goal.returns-clause-led
 returns-clause-led g c =
-    let j : Query = record {
-      registry = c.args.checked.now.types;
-      ty = c.args.root.0;
-      depth =
-          c.args.limits.depth;
-      bytes = c.args.limits.bytes;
-    } in
+    let j = query_of c.args.checked.now.types c.args.root.0 c.args.limits in
     let run = c.in_ok-run.run' in
+    let fault = opening_fault j.registry j.ty c.args.limits in
     inl (first_going j run (first j).built
-    (opened_first (opening_fault j.registry j.ty c.args.limits) (first j) run c.in_ok-run.ensures.opens).1 refl)
+    (opened_first fault (first j) run c.in_ok-run.ensures.opens).1 refl)

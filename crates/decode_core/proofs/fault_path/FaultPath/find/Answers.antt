@@ -1,8 +1,8 @@
 use Rattle.std.proofs.Common.{List, Ok, Option, arith, refl, subst, sym, take, ℕ}
 use Rattle.scale_core.proofs.ReadModes.{are_bytes}
-use Rattle.outcome_core.specs.Outcome.{Query}
 use Rattle.machine_core.specs.Turned.{FeedReports}
 use Rattle.decode_core.specs.Decoding.{opening_fault}
+use Rattle.decode_core.specs.Streaming.{query_of}
 use Rattle.decode_core.specs.Paths.{FindsPath}
 use Rattle.decode_core.specs.declared.fault.OpenFault.{OpenFault}
 use Rattle.decode_core.proofs.calls.Leading.{fed_leads, first_bytes, is_answer}
@@ -11,12 +11,7 @@ use Rattle.decode_core.proofs.fault_path.FaultPath.find.Goals as goal
 
 pub returns : goal.returns
 returns g c =
-    let j : Query = record {
-      registry = c.args.checked.now.types;
-      ty = c.args.root.0;
-      depth = c.args.limits.depth;
-      bytes = c.args.limits.bytes;
-    } in
+    let j = query_of c.args.checked.now.types c.args.root.0 c.args.limits in
     let run = c.in_ok-run.run' in
     let new = c.feed-stopped.new.self in
     let why = c.feed-stopped.result.1 in
