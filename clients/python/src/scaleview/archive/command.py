@@ -124,6 +124,9 @@ def _job_of(words: argparse.Namespace) -> Job:
     """
     packing = Packing.GZIP if words.gzip else Packing.PLAIN
     versions = _versions_of(words.versions) if words.versions else ()
+    fields = Fields(words.block_field, words.key_field, words.value_field)
+    if len(set(fields)) < len(fields):
+        raise Failure(Status.USAGE, "usage: two fields have one name")
     if versions and words.input != Form.JSON.value:
         raise Failure(Status.USAGE, "usage: --versions needs rows with blocks: --input json")
     job = Job(
@@ -135,7 +138,7 @@ def _job_of(words: argparse.Namespace) -> Job:
         form=Form(words.input),
         packing=packing,
         keys=Keys.AS_GIVEN if words.raw_keys else Keys.DECODED,
-        fields=Fields(words.block_field, words.key_field, words.value_field),
+        fields=fields,
         limits=Limits(words.depth, words.bytes, words.memory),
         has_bits=words.bits,
         is_opaque=words.opaque,

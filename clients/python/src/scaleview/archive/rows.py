@@ -8,6 +8,7 @@ from typing import Any, Callable, Dict, List, NamedTuple, NoReturn, Optional, Un
 from .. import OutOfMemory, Refused
 from .job import Form, Job
 from .sources import Fault, Piece
+from .usual import GROUP, Group, are_plain, group_of
 from .versions import Types, Versions
 
 
@@ -91,6 +92,7 @@ class Rows:
 
     def __init__(self, job: Job, write: Write) -> None:
         self._names = job.fields
+        self._are_plain = are_plain(job.fields)
         self._is_hex = job.form is Form.HEX
         self._needs_block = bool(job.versions)
         self._versions = Versions(job)
@@ -101,6 +103,8 @@ class Rows:
         self._write = write
         self._texts: List[str] = []
         self._rejections: List[Rejection] = []
+        # How many characters the texts have.
+        self._held = 0
 
     def add(self, piece: Piece) -> None:
         """Adds the rows of a piece."""
@@ -120,32 +124,43 @@ class Rows:
             else:
                 self._add_json(_lines_of(text))
 
-    def flush(self) -> int:
-        """Writes what came of the rows so far. Returns 0, the number of characters that it keeps."""
+    def flush(self) -> None:
+        """Writes what came of the rows so far."""
         self._write(self._texts, self._rejections)
-        self._texts.clear()
-        self._rejections.clear()
-        return 0
+        self._texts, self._rejections, self._held = [], [], 0
 
-    def _reject(self, row: int, field: Optional[str], error: BaseException) -> None:
-        self._rejections.append(_rejection_of(row, field, error))
+    def _reject(self, field: Optional[str], error: BaseException) -> None:
+        """Adds a row whose field, or whose text, raised an exception."""
+        self._rejections.append(_rejection_of(self.count, field, error))
+        self.count += 1
         if len(self._rejections) >= _MOST_REJECTIONS:
+            self.flush()
+
+    def _hold(self, texts: List[str]) -> None:
+        """Adds the texts of rows that are all decoded."""
+        self._texts += texts
+        self.count += len(texts)
+        self._held += sum(map(len, texts))
+        if self._held > _MOST_HELD:
             self.flush()
 
     def _add_values(self, values: Union[List[bytes], List[str]]) -> None:
         """Adds values that have no other fields, as bytes or digits."""
-        texts, name, held = self._texts, self._names.value, self.flush()
         write = self._versions.types_at(0).value
-        for row, value in enumerate(values, self.count):
+        for start in range(0, len(values), GROUP):
+            group = values[start : start + GROUP]
             try:
-                text = write(value)
-                texts.append(f'{{"value":{text}}}')
-                held += len(text)
+                self._hold([f'{{"value":{write(value)}}}' for value in group])
+            except _REJECTED:
+                self._add_each(group, write)
+
+    def _add_each(self, values: Union[List[bytes], List[str]], write: Callable[[Any], str]) -> None:
+        """Adds values some of which are rejected."""
+        for value in values:
+            try:
+                self._hold([f'{{"value":{write(value)}}}'])
             except _REJECTED as error:
-                self._reject(row, name, error)
-            if held > _MOST_HELD:
-                held = self.flush()
-        self.count += len(values)
+                self._reject(self._names.value, error)
 
     def _add_bytes(self, lines: List[bytes]) -> None:
         """Adds lines of JSON some of which aren't UTF-8."""
@@ -153,40 +168,62 @@ class Rows:
             try:
                 text = line.decode()
             except UnicodeDecodeError as error:
-                self._reject(self.count, None, error)
-                self.count += 1
+                self._reject(None, error)
             else:
                 self._add_json(_lines_of(text))
 
     def _add_json(self, lines: List[str]) -> None:
-        """Adds lines of JSON. What a row costs beside its parsing and decoding stands here."""
-        texts, types, scan, held = self._texts, self._types, _decoder.raw_decode, self.flush()
-        block_name, key_name, value_name = self._names
-        for row, line in enumerate(lines, self.count):
-            field = None
+        """Adds lines of JSON."""
+        for start in range(0, len(lines), GROUP):
+            group = lines[start : start + GROUP]
             try:
-                found, end = scan(line) if line.startswith("{") else (None, -1)
-                if end != len(line):
-                    found = _row_of(line)
-                if type(found) is not dict:
-                    raise WrongRow("NotObject", None)
-                block, key, value = found.get(block_name), found.get(key_name), found.get(value_name)
-                if type(block) is not int or type(value) is not str:
-                    self._check(found)
-                if not types.first <= (block or 0) <= types.last:
-                    types = self._types = self._types_at(block or 0)
-                field = value_name
-                text = f'"value":{types.value(value)}}}'
-                if key is not None:
-                    field = key_name
-                    text = f'"key":{self._text_of_key(key)},{text}'
-                texts.append("{" + text if block is None else f'{{"block":{block},{text}')
-                held += len(text)
-            except _REJECTED as error:
-                self._reject(row, field, error)
-            if held > _MOST_HELD:
-                held = self.flush()
-        self.count += len(lines)
+                texts = self._texts_of(group_of(group, self._names) if self._are_plain else None)
+            except _REJECTED:
+                texts = None
+            if texts is not None:
+                self._hold(texts)
+            else:
+                for line in group:
+                    self._add_line(line)
+
+    def _texts_of(self, group: Optional[Group]) -> Optional[List[str]]:
+        """Returns the texts of rows of the usual form, or None if their types aren't those of the
+        row before."""
+        if group is None:
+            return None
+        blocks, keys, values = group
+        types = self._types
+        if not types.first <= min(blocks) <= max(blocks) <= types.last:
+            return None
+        write, write_key = types.value, types.key
+        if keys is None:
+            return [f'{{"block":{at},"value":{write(value)}}}' for at, value in zip(blocks, values)]
+        if write_key is None:
+            return None
+        return [
+            f'{{"block":{at},"key":{write_key(key)},"value":{write(value)}}}'
+            for at, key, value in zip(blocks, keys, values)
+        ]
+
+    def _add_line(self, line: str) -> None:
+        """Adds a line of JSON of any form."""
+        field: Optional[str] = None
+        try:
+            row = _row_of(line)
+            if not isinstance(row, dict):
+                raise WrongRow("NotObject", None)
+            self._check(row)
+            block, key = row.get(self._names.block), row.get(self._names.key)
+            if not self._types.first <= (block or 0) <= self._types.last:
+                self._types = self._types_at(block or 0)
+            field = self._names.value
+            text = f'"value":{self._types.value(row[field])}}}'
+            if key is not None:
+                field = self._names.key
+                text = f'"key":{self._text_of_key(key)},{text}'
+            self._hold(["{" + text if block is None else f'{{"block":{block},{text}'])
+        except _REJECTED as error:
+            self._reject(field, error)
 
     def _check(self, row: Dict[str, Any]) -> None:
         """Rejects a row whose value is absent or no text, or whose block is no whole number, or
