@@ -39,6 +39,8 @@ Name: {NAME}
 Version: {VERSION}
 Summary: A fast SCALE codec for Polkadot and Substrate, around a proved decoder
 Requires-Python: >=3.8
+Provides-Extra: archive
+Requires-Dist: distributed >=2022.12 ; extra == 'archive'
 Description-Content-Type: text/markdown
 
 """
@@ -86,17 +88,20 @@ def build_extension(target: pathlib.Path) -> None:
         _fail(f"the extension module can't be compiled: {shlex.join(command)}\n{ended.stdout}")
 
 
-def _package_files() -> List[pathlib.Path]:
-    folder = HERE / "src" / NAME
-    return sorted(path for path in folder.iterdir() if path.suffix in (".py", ".pyi") or path.name == "py.typed")
+def _package_files() -> Dict[str, pathlib.Path]:
+    """The files of the package and of those in it, by their names with the package's folder."""
+    source = HERE / "src"
+    paths = sorted((source / NAME).rglob("*"))
+    files = [path for path in paths if path.suffix in (".py", ".pyi") or path.name == "py.typed"]
+    return {path.relative_to(source).as_posix(): path for path in files}
 
 
 def build_package(folder: pathlib.Path) -> None:
     """Makes the package in a folder, without pip."""
     package = folder / NAME
-    package.mkdir(parents=True, exist_ok=True)
-    for path in _package_files():
-        shutil.copyfile(path, package / path.name)
+    for name, path in _package_files().items():
+        (folder / name).parent.mkdir(parents=True, exist_ok=True)
+        shutil.copyfile(path, folder / name)
     # A process that has the old file open keeps it.
     build_extension(package / "_native.new")
     os.replace(package / "_native.new", package / EXTENSION)
@@ -144,7 +149,7 @@ def _write_wheel(folder: str, tag: str, files: List[Tuple[str, bytes]]) -> str:
 def build_wheel(
     wheel_directory: str, config_settings: Optional[Dict[str, Any]] = None, metadata_directory: Optional[str] = None
 ) -> str:
-    files = [(f"{NAME}/{path.name}", path.read_bytes()) for path in _package_files()]
+    files = [(name, path.read_bytes()) for name, path in _package_files().items()]
     with tempfile.TemporaryDirectory() as made:
         extension = pathlib.Path(made) / EXTENSION
         build_extension(extension)
@@ -166,7 +171,7 @@ def build_editable(
 def build_sdist(sdist_directory: str, config_settings: Optional[Dict[str, Any]] = None) -> str:
     """The sources with scaleview.h and libscaleview.a, which is of one platform."""
     root = f"{NAME}-{VERSION}"
-    files = {f"src/{NAME}/{path.name}": path.read_bytes() for path in _package_files()}
+    files = {f"src/{name}": path.read_bytes() for name, path in _package_files().items()}
     files.update({f"native/{path.name}": path.read_bytes() for path in sorted((HERE / "native").iterdir())})
     files["native/scaleview.h"] = (_header_folder() / "scaleview.h").read_bytes()
     files["native/libscaleview.a"] = _archive().read_bytes()

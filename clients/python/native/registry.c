@@ -4,6 +4,8 @@
 struct registry {
     PyObject_HEAD
     struct shared *shared; /* NULL once it is closed */
+    PyObject *data;        /* the bytes that it was opened from, or NULL once it is closed */
+    bool is_metadata;      /* it was opened as metadata */
 };
 
 /* Returns a registry's data with a reference of the caller's, or NULL with an exception. */
@@ -36,6 +38,25 @@ static struct shared *open_source(PyObject *module, PyObject *metadata, struct s
     return open_shared(module, source);
 }
 
+/* Makes the object of an open registry, which takes over the caller's reference to `shared`. */
+static PyObject *registry_of(PyTypeObject *class, struct shared *shared, PyObject *data, bool is_metadata) {
+    allocfunc alloc = (allocfunc)PyType_GetSlot(class, Py_tp_alloc);
+    /* Bytes of a subclass may refer to anything, which no collector would find here. */
+    PyObject *kept = PyBytes_CheckExact(data)
+                         ? new_ref(data)
+                         : PyBytes_FromStringAndSize(PyBytes_AsString(data), PyBytes_Size(data));
+    struct registry *self = kept ? (struct registry *)alloc(class, 0) : NULL;
+    if (!self) {
+        Py_XDECREF(kept);
+        release(shared);
+        return NULL;
+    }
+    self->shared = shared;
+    self->data = kept;
+    self->is_metadata = is_metadata;
+    return (PyObject *)self;
+}
+
 static PyObject *registry_new(PyTypeObject *class, PyObject *args, PyObject *keywords) {
     static char *names[] = {"data", "metadata", "bits", "_names", NULL};
     PyObject *data, *metadata = Py_None;
@@ -50,31 +71,33 @@ static PyObject *registry_new(PyTypeObject *class, PyObject *args, PyObject *key
     struct whose whose = {state_of(module), "registry", -1};
     PyObject *kept = given_bytes(&whose, data, &source.bytes, &source.length);
     struct shared *shared = kept ? open_source(module, metadata, &source) : NULL;
+    bool is_metadata = source.flags & SCALEVIEW_METADATA;
+    PyObject *self = shared ? registry_of(class, shared, kept, is_metadata) : NULL;
     Py_DECREF(module);
     Py_XDECREF(kept);
-    if (!shared) return NULL;
-    allocfunc alloc = (allocfunc)PyType_GetSlot(class, Py_tp_alloc);
-    PyObject *self = alloc(class, 0);
-    if (self)
-        ((struct registry *)self)->shared = shared;
-    else
-        release(shared);
     return self;
 }
 
-static PyObject *registry_close(PyObject *self, PyObject *unused) {
-    struct shared *shared = ((struct registry *)self)->shared;
-    (void)unused;
-    ((struct registry *)self)->shared = NULL;
+/* Drops what an open registry has. */
+static void close_registry(struct registry *registry) {
+    struct shared *shared = registry->shared;
+    PyObject *data = registry->data;
+    registry->shared = NULL;
+    registry->data = NULL;
     if (shared) release(shared);
+    Py_XDECREF(data);
+}
+
+static PyObject *registry_close(PyObject *self, PyObject *unused) {
+    (void)unused;
+    close_registry((struct registry *)self);
     return new_ref(Py_None);
 }
 
 static void registry_dealloc(PyObject *self) {
     PyTypeObject *class = Py_TYPE(self);
     freefunc free_self = (freefunc)PyType_GetSlot(class, Py_tp_free);
-    struct shared *shared = ((struct registry *)self)->shared;
-    if (shared) release(shared);
+    close_registry((struct registry *)self);
     free_self(self);
     Py_DECREF(class);
 }
@@ -295,8 +318,21 @@ static PyObject *get_closed(PyObject *self, void *unused) {
     return PyBool_FromLong(!((struct registry *)self)->shared);
 }
 
+/* (the bytes that it was opened from, whether as metadata, whether it reads bit sequences) */
+static PyObject *get_source(PyObject *self, void *unused) {
+    struct shared *shared = shared_of(self);
+    struct registry *registry = (struct registry *)self;
+    (void)unused;
+    if (!shared) return NULL;
+    PyObject *is_metadata = registry->is_metadata ? Py_True : Py_False;
+    PyObject *source = PyTuple_Pack(3, registry->data, is_metadata, shared->has_bits ? Py_True : Py_False);
+    release(shared);
+    return source;
+}
+
 static PyGetSetDef getters[] = {
     {"_count", get_count, NULL, NULL, NULL},
+    {"_source", get_source, NULL, NULL, NULL},
     {"version", get_version, NULL, "The version of the metadata, 14 or 15, or None for a registry alone.", NULL},
     {"end", get_end, NULL, "Where the registry's own types end, in bytes from the start of the data.", NULL},
     {"closed", get_closed, NULL, "Whether the registry is closed.", NULL},

@@ -1404,12 +1404,11 @@ class Answers(unittest.TestCase):
         self.assertEqual(str(raised.exception), "check: UnknownType 1 in type 0")
         self.assertEqual((raised.exception.place, raised.exception.from_type, raised.exception.to_type), (None, 0, 1))
 
-    def test_handles_are_not_copied(self) -> None:
-        registry = Registry(U16)
-        for handle in (registry, Decoder(registry, 0)):
-            for call in (copy.copy, copy.deepcopy, pickle.dumps):
-                with self.assertRaises(TypeError):
-                    call(handle)
+    def test_decoders_are_not_copied(self) -> None:
+        decoder = Decoder(Registry(U16), 0)
+        for call in (copy.copy, copy.deepcopy, pickle.dumps):
+            with self.assertRaises(TypeError):
+                call(decoder)
 
     def test_exceptions_are_pickled_and_copied(self) -> None:
         raised: list[Refused] = []

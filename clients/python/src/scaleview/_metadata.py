@@ -5,7 +5,7 @@ from __future__ import annotations
 import itertools
 from typing import TYPE_CHECKING, Any, Dict, Iterator, Mapping, NamedTuple, Tuple, TypeVar
 
-from . import _native
+from . import _kept, _native
 from ._base import UnknownName
 from ._native import DEPTH, LIMIT
 from ._registry import Data, Registry, Type
@@ -59,6 +59,9 @@ class Named(Type):
             OutOfMemory: An allocation failed, or would have exceeded the bound of `decode`.
         """
         return self.decode(self.data)
+
+    def __reduce__(self) -> Tuple[Any, ...]:
+        return type(self), (self.registry, self.id, self.name, self.has_bytes)
 
     def __repr__(self) -> str:
         return f"<{type(self).__name__} {self.name}, type {self.id}>"
@@ -185,6 +188,7 @@ class Methods(Names[Method]):
         return Method(self._metadata.type_of("params:" + name), result)
 
 
+@_kept.shared
 class Metadata(Registry, _native.Metadata):
     """A chain's metadata of version 14 or 15, with the names that it gives to types.
 
@@ -217,6 +221,15 @@ class Metadata(Registry, _native.Metadata):
     def raw(cls: type[_R], data: Data, *, bits: bool = False) -> _R:
         """Raises TypeError: a registry that stands alone has no names. `Registry.raw` opens one."""
         raise TypeError("a registry that stands alone has no names: open it by Registry.raw")
+
+    @classmethod
+    def _open(cls: type[_M], data: bytes, is_metadata: bool, has_bits: bool) -> _M:
+        return Metadata.__new__(cls, data, bits=has_bits)
+
+    def _state(self) -> Dict[str, Any]:
+        state = super()._state()
+        del state["_found"]
+        return state
 
     def _look_up(self, name: str) -> Tuple[int, bool]:
         found = self._found.get(name)

@@ -6,6 +6,7 @@ import os
 from typing import (
     TYPE_CHECKING,
     Any,
+    Dict,
     Iterator,
     List,
     NamedTuple,
@@ -18,7 +19,7 @@ from typing import (
     overload,
 )
 
-from . import _native
+from . import _kept, _native
 
 # Checkers of types know typing_extensions, which needn't be installed.
 if TYPE_CHECKING:
@@ -162,6 +163,9 @@ class Type(_native.Type):
     def __deepcopy__(self: _T, memo: object) -> _T:
         return self
 
+    def __reduce__(self) -> Tuple[Any, ...]:
+        return type(self), (self.registry, self.id)
+
     def __str__(self) -> str:
         """Returns its position, class, kind and path, as the command prints them."""
         return self.registry._line(self.id)[:-1]
@@ -203,6 +207,7 @@ class Types(Sequence[Type]):
         return f"<{len(self)} types>"
 
 
+@_kept.shared
 class Registry(_native.Registry):
     """An open registry of types.
 
@@ -217,6 +222,12 @@ class Registry(_native.Registry):
 
     It needs no `close`: memory is freed with the last object that uses it.
 
+    It is pickled as its bytes and flags. A process that unpickles it has one registry for each
+    content, as does the process that pickled it, so closing that one closes it for all who have it.
+    The 16 registries that were unpickled last stay open. One of a derived class is opened anew each
+    time, without a call of `__new__` or `__init__` of that class, and has the attributes of the
+    first. A copy is the registry itself.
+
     Raises:
         Refused: The bytes are rejected, with the reason and the place.
         OutOfMemory: An allocation failed.
@@ -227,6 +238,23 @@ class Registry(_native.Registry):
     def raw(cls: type[_R], data: Data, *, bits: bool = False) -> _R:
         """Opens a registry that stands alone, whatever its first letters are."""
         return cls(data, metadata=False, bits=bits)
+
+    @classmethod
+    def _open(cls: type[_R], data: bytes, is_metadata: bool, has_bits: bool) -> _R:
+        return Registry.__new__(cls, data, metadata=is_metadata, bits=has_bits)
+
+    def _state(self) -> Dict[str, Any]:
+        """What a registry of a derived class has beside its content."""
+        return dict(vars(self))
+
+    def __reduce__(self) -> Tuple[Any, ...]:
+        return _kept.reduced(self, self._state())
+
+    def __copy__(self: _R) -> _R:
+        return self
+
+    def __deepcopy__(self: _R, memo: object) -> _R:
+        return self
 
     @property
     def types(self) -> Types:

@@ -1,0 +1,217 @@
+"""A run on the workers of a cluster. This module and `worker` alone import `distributed`."""
+# mypy: allow-untyped-calls
+
+from __future__ import annotations
+
+import contextlib
+import dataclasses
+import itertools
+import logging
+import uuid
+from typing import Any, Iterator, List, Optional, Set, Tuple, Union
+
+import dask.config
+import dask.system
+from distributed import (
+    CancelledError,
+    Client,
+    Future,
+    KilledWorker,
+    LocalCluster,
+    TimeoutError,
+    get_worker,
+    wait,
+)
+
+from .failures import Failure, Status, as_failures
+from .folder import Folder
+from .job import Job, Packing, Part, Summary
+from .processes import Processes
+from .progress import Progress
+from .tasks import decode_gzip, decode_part, parts_of
+
+# How often each worker of our own, or the workers of a task, may end until a part is finished.
+_MOST_DEATHS = 10
+# How many tasks the scheduler has for each thread of a worker.
+_TASKS_OF_A_THREAD = 2
+# How often the bar changes and worker processes are looked at, if no part is finished meanwhile.
+_SECONDS_BETWEEN = 1.0
+
+
+@dataclasses.dataclass(frozen=True)
+class Workers:
+    """Processes of this machine: so many, or one for each processor."""
+
+    count: Optional[int]
+
+
+@dataclasses.dataclass(frozen=True)
+class Scheduler:
+    """A cluster."""
+
+    address: str
+
+
+#: A function that a worker calls, and its arguments.
+Task = Tuple[Any, ...]
+
+
+class Cluster:
+    """A connection to a scheduler, and the worker processes that are ours."""
+
+    def __init__(self, client: Client, processes: Optional[Processes]) -> None:
+        self.client = client
+        self._processes = processes
+        self._deaths = 0
+
+    def thread_count(self) -> int:
+        """Returns how many tasks can be under way."""
+        threads: int = sum(self.client.nthreads().values())
+        return threads if self._processes is None else self._processes.count
+
+    def note_progress(self) -> None:
+        """Forgets the workers that have ended."""
+        if self._processes is not None:
+            self._deaths = self._processes.deaths
+
+    def check(self) -> None:
+        """Raises a failure if workers end and nothing else happens."""
+        if self._processes is not None:
+            deaths = self._processes.deaths - self._deaths
+            if deaths > _MOST_DEATHS * self._processes.count:
+                line = "the workers end again and again: is there enough memory?"
+                raise Failure(Status.MEMORY, line)
+
+
+def run(job: Job, where: Union[Workers, Scheduler], progress: Progress) -> Summary:
+    """Does what isn't done yet of a job, and returns the sums of all its parts.
+
+    Raises:
+        Failure: The run ends. Finished parts stay, and the next run goes on there.
+    """
+    folder = Folder(job.folder)
+    with as_failures(), folder.claimed(job):
+        topic = f"scaleview-archive-{uuid.uuid4().hex}"
+        tasks = _open_tasks(job, folder, topic, progress)
+        first = next(tasks, None)
+        if first is not None:
+            with _quiet(), _cluster_of(where, folder) as cluster:
+                if job.packing is Packing.GZIP:
+                    cluster.client.subscribe_topic(topic, lambda event: progress.add(event[1]))
+                _run_tasks(cluster, itertools.chain([first], tasks), progress)
+        progress.end()
+        return folder.join(job)
+
+
+def _open_tasks(job: Job, folder: Folder, topic: str, progress: Progress) -> Iterator[Task]:
+    """Iterates over the tasks of what isn't finished, in the order of the inputs."""
+    for input in range(len(job.inputs)):
+        if job.packing is Packing.GZIP:
+            is_done = False
+            for _, summary in folder.finished(input):
+                progress.add_known(summary)
+                is_done = summary.is_last
+            if not is_done:
+                yield _decode_gzip, job, input, topic
+            continue
+        for part in parts_of(job, input):
+            known = folder.summary_of(part)
+            if known is None:
+                yield decode_part, job, part
+            else:
+                progress.add_known(known)
+
+
+def _decode_gzip(job: Job, input: int, topic: str) -> None:
+    """Decodes a compressed file on a worker, and reports each part."""
+
+    def report(part: Part, summary: Summary) -> None:
+        get_worker().log_event(topic, summary)
+
+    decode_gzip(job, input, report)
+
+
+@contextlib.contextmanager
+def _quiet() -> Iterator[None]:
+    """Keeps the cluster from logging, in this process."""
+    before = logging.root.manager.disable
+    logging.disable(logging.CRITICAL)
+    try:
+        yield
+    finally:
+        logging.disable(before)
+
+
+@contextlib.contextmanager
+def _cluster_of(where: Union[Workers, Scheduler], folder: Folder) -> Iterator[Cluster]:
+    """Connects to a cluster, or starts one."""
+    with contextlib.ExitStack() as stack:
+        try:
+            if isinstance(where, Scheduler):
+                cluster = Cluster(stack.enter_context(Client(where.address)), None)
+            else:
+                cluster = _start(where.count or dask.system.CPU_COUNT, folder, stack)
+        except (OSError, ValueError, RuntimeError) as error:
+            what = f"{where.address}: no scheduler" if isinstance(where, Scheduler) else "no workers"
+            raise Failure(Status.DEVICE, f"{what}: {error}") from None
+        yield cluster
+
+
+def _start(count: int, folder: Folder, stack: contextlib.ExitStack) -> Cluster:
+    """Starts a scheduler in this process, and worker processes."""
+    stack.enter_context(dask.config.set({"distributed.scheduler.allowed-failures": _MOST_DEATHS}))
+    local = LocalCluster(
+        n_workers=0, processes=True, dashboard_address=None, silence_logs=logging.CRITICAL
+    )
+    address = stack.enter_context(local).scheduler_address
+    client = stack.enter_context(Client(address))
+    return Cluster(client, stack.enter_context(Processes(address, str(folder.unfinished), count)))
+
+
+def _run_tasks(cluster: Cluster, tasks: Iterator[Task], progress: Progress) -> None:
+    """Gives the scheduler as many tasks as keep the workers busy, and new ones as they end."""
+    pending: Set[Future] = set()
+    while True:
+        wanted = _TASKS_OF_A_THREAD * max(cluster.thread_count(), 1) - len(pending)
+        for function, *arguments in itertools.islice(tasks, max(wanted, 0)):
+            pending.add(cluster.client.submit(function, *arguments, pure=False))
+        if not pending:
+            return
+        ended = _wait_for(pending)
+        for future in ended:
+            pending.remove(future)
+            summary = _result_of(future)
+            if summary is not None:
+                progress.add(summary)
+        if ended:
+            cluster.note_progress()
+        cluster.check()
+        progress.refresh()
+
+
+def _wait_for(pending: Set[Future]) -> List[Future]:
+    """Returns the tasks that have ended, of which there may be none after some time."""
+    try:
+        wait(pending, timeout=_SECONDS_BETWEEN, return_when="FIRST_COMPLETED")
+    except (TimeoutError, CancelledError):
+        # A task that is cancelled has ended, and says so by its result.
+        pass
+    return [future for future in pending if future.done()]
+
+
+def _result_of(future: Future) -> Optional[Summary]:
+    """Returns what a task returned.
+
+    Raises:
+        Failure: The task failed, or its workers or its scheduler are gone.
+    """
+    try:
+        summary: Optional[Summary] = future.result()
+    except KilledWorker:
+        line = "a part ended all workers that had it: is there enough memory?"
+        raise Failure(Status.MEMORY, line) from None
+    except CancelledError:
+        raise Failure(Status.DEVICE, "the scheduler is gone") from None
+    except ImportError as error:
+        raise Failure(Status.DEVICE, f"a worker has another scaleview or none: {error}") from None
+    return summary
