@@ -210,7 +210,7 @@ export class ScaleviewError extends Error {
   readonly part?: 'registry' | 'check' | 'type' | 'limits' | 'value';
   /** The place in bytes from the start, or in characters for OddHex and BadHex. */
   readonly place?: number;
-  /** The part of a value that isn't decoded or encoded, such as "value.list[3]". */
+  /** Where a value that isn't encoded is, such as "value.list[3]". */
   readonly path?: string;
   /** The position of the rejected item of `decodeMany`. */
   readonly item?: number;

@@ -82,7 +82,6 @@ void release_state(struct state *state);
 napi_value open_registry(napi_env env, napi_callback_info info);
 napi_value close_registry(napi_env env, napi_callback_info info);
 napi_value decode(napi_env env, napi_callback_info info);
-napi_value path_of(napi_env env, napi_callback_info info);
 napi_value decode_text(napi_env env, napi_callback_info info);
 napi_value encode(napi_env env, napi_callback_info info);
 napi_value start(napi_env env, napi_callback_info info);

@@ -46,36 +46,6 @@ napi_value decode(napi_env env, napi_callback_info info) {
     return NULL;
 }
 
-/* The numbers of steps as an array of 32 bits, or NULL. */
-static napi_value numbers_of(napi_env env, const scaleview_step *steps, size_t count) {
-    napi_value buffer = NULL, made = NULL;
-    void *at = NULL;
-    if (napi_create_arraybuffer(env, count * sizeof *steps, &at, &buffer) != napi_ok) return NULL;
-    if (count) memcpy(at, steps, count * sizeof *steps);
-    napi_create_typedarray(env, napi_uint32_array, count * sizeof *steps / sizeof(uint32_t), buffer, 0,
-                           &made);
-    return made;
-}
-
-/* pathOf(bytes): where the bytes of a value are rejected or end: a type, an arm and a part for each
- * step. It is undefined if they begin with a complete value, and after an error. */
-napi_value path_of(napi_env env, napi_callback_info info) {
-    struct call call = call_of(env, info);
-    const struct control *control = call.control;
-    struct bytes bytes = bytes_of(&call, call.arguments[0]);
-    size_t room = control->depth + (size_t)1;
-    scaleview_step *steps = malloc(room * sizeof *steps);
-    scaleview_answer found = {.code = SCALEVIEW_MEMORY};
-    napi_value made = NULL;
-    if (steps)
-        scaleview_path_of(registry_of(&call), control->type, (uint16_t)control->depth,
-                          (uint64_t)control->limit, memory_for(control, bytes.length), bytes.at,
-                          bytes.length, steps, room, &found);
-    if (found.code == SCALEVIEW_OK && found.at == 1) made = numbers_of(env, steps, (size_t)found.length);
-    free(steps);
-    return made;
-}
-
 struct written_text {
     text_writer *write;
     void *context;

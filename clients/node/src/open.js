@@ -7,7 +7,6 @@ const {
   POOL_LENGTH, LIMIT, MEMORY, MEMORY_OF_A_BYTE,
 } = require('./native');
 const { errorOf, allocated } = require('./errors');
-const { decodingError } = require('./paths');
 const { bytesOf, unshared, lengthOf, MOST_ENCODED } = require('./arguments');
 const { records, input, INPUT_ROOM, grow, shrink, turnTo } = require('./records');
 const { Types } = require('./types');
@@ -92,7 +91,7 @@ class Open {
       addon.decode(unshared(bytes));
     }
     if (words[CODE] === 0) return this.valueAt(type, turnTo(0));
-    if (words[CODE] !== NO_ROOM) throw decodingError(this, answer(), { type, bytes, limits, ...facts });
+    if (words[CODE] !== NO_ROOM) throw errorOf(answer(), { type, ...facts });
     grow();
     return this.decode(type, bytes, limits, facts);
   }
@@ -119,13 +118,13 @@ class Open {
         values.push(this.decode(type, batch[first], limits, { item: values.length }));
         first += 1;
       } else {
-        first += this.#decodeFilled(type, { batch, first, count }, limits, values);
+        first += this.#decodeFilled(type, count, limits, values);
       }
     }
   }
 
   /** Appends the values of as many inputs as have room, and returns how many. */
-  #decodeFilled(type, { batch, first, count }, limits, values) {
+  #decodeFilled(type, count, limits, values) {
     this.state(type, limits);
     words[COUNT] = count;
     addon.decode();
@@ -136,13 +135,13 @@ class Open {
     for (let i = 0; i < done; i += 1) values.push(read(turnTo(i)));
     if (records.isLarge) shrink();
     if (found === undefined || found.code === NO_ROOM) return done;
-    throw decodingError(this, found, { type, bytes: batch[first + done], limits, item: values.length });
+    throw errorOf(found, { type, item: values.length });
   }
 
   decodeJson(type, bytes, limits, facts) {
     this.state(type, limits);
     const text = addon.decodeText(unshared(bytes));
-    if (words[CODE] !== 0) throw decodingError(this, answer(), { type, bytes, limits, ...facts });
+    if (words[CODE] !== 0) throw errorOf(answer(), { type, ...facts });
     return text;
   }
 

@@ -1,12 +1,11 @@
 // Arguments, options, errors, registries, decoders and streams.
 
 import assert from 'node:assert/strict';
-import { readFileSync } from 'node:fs';
 import { createRequire } from 'node:module';
 import { Readable } from 'node:stream';
 import { test } from 'node:test';
 import * as scaleview from 'scaleview';
-import { Decoder, DecoderStream, Metadata, Registry, ScaleviewError } from 'scaleview';
+import { Decoder, DecoderStream, Registry, ScaleviewError } from 'scaleview';
 import {
   bitsOf, composite, option, primitive, registryOf, sequence, tuple, variant,
 } from './builder.mjs';
@@ -124,23 +123,7 @@ test('errors have the reason, the place and the item', () => {
   });
   const items = new Array(100).fill('01');
   items[77] = '02';
-  const about = { item: 77, place: 0, name: 'BadBool', path: 'value' };
-  assert.throws(() => registry.decodeMany(3, items), about);
-});
-
-test('errors have a path', () => {
-  const metadata = new Metadata(readFileSync(new URL('../../../examples/chain/chain.metadata', import.meta.url)));
-  const account = metadata.type('storage:System.Account').id;
-  const cut = new Uint8Array(20);
-  const wanted = { place: 20, path: 'value.data.free', message: 'value: Truncated at 20' };
-  assert.throws(() => metadata.decode(account, cut), wanted);
-  assert.throws(() => metadata.decodeJson(account, cut), wanted);
-  assert.throws(() => metadata.decodeMany(account, [cut]), { ...wanted, item: 0, message: /in item 0$/ });
-  // A length of 20 bytes in front of them.
-  const opaque = Uint8Array.of(80, ...cut);
-  assert.throws(() => metadata.decode(account, opaque, { opaque: true }), { place: 21, path: 'value.data.free' });
-  const more = new Uint8Array(81);
-  assert.throws(() => metadata.decode(account, more), ({ name, path }) => name === 'TrailingBytes' && path === undefined);
+  assert.throws(() => registry.decodeMany(3, items), { item: 77, place: 0, name: 'BadBool' });
 });
 
 test('wrong values are named by their path', () => {
