@@ -29,10 +29,11 @@ from unittest import mock
 from scaleview.archive import command, sources
 from scaleview.archive.failures import Failure, Status
 from scaleview.archive.folder import Folder
-from scaleview.archive.job import Job, Packing
+from scaleview.archive.job import Fields, Job, Packing
 from scaleview.archive.progress import Progress, clock
 from scaleview.archive.sources import EVERYTHING, Fault, Source, gzip_source, lines, part_starts, plain_source, values
 from scaleview.archive.tasks import decode_gzip, decode_part, parts_of
+from scaleview.archive.usual import are_plain, group_of
 
 CHAIN = pathlib.Path(__file__).resolve().parents[3] / "examples" / "chain"
 HAS_CLUSTER = importlib.util.find_spec("distributed") is not None
@@ -406,6 +407,58 @@ class Archives(JobCase):
             _rejection_of(3, "value", ValueError("the registry is closed"))
 
 
+class UsualLines(unittest.TestCase):
+    """Lines whose fields are read without the module json."""
+
+    def check(self, lines_there: list[str], fields: Fields) -> bool:
+        """Returns whether the fields are read. If the texts in them are digits, json reads the same ones."""
+        found = group_of(lines_there, fields)
+        if found is None:
+            return False
+        keys = found.keys or [None] * len(lines_there)
+        for line, block, key, value in zip(lines_there, found.blocks, keys, found.values):
+            if set(value) | set(key or "") <= set("0123456789abcdefABCDEFx"):
+                expected = {fields.block: block, fields.key: key, fields.value: value}
+                self.assertEqual({name: its for name, its in expected.items() if its is not None}, json.loads(line))
+        return True
+
+    def test_both_forms_are_read(self) -> None:
+        rows = [{"block": 0, "key": "0x1", "value": ""}, {"block": 10**20, "key": "", "value": "0xab"}]
+        for separators in ((", ", ": "), (",", ":")):
+            lines_there = [json.dumps(it, separators=separators) for it in rows]
+            found = group_of(lines_there, Fields())
+            self.assertEqual(found, ([0, 10**20], ("0x1", ""), ("", "0xab")))
+            for it in rows:
+                del it["key"]
+            without = [json.dumps(it, separators=separators) for it in rows]
+            self.assertEqual(group_of(without, Fields()), ([0, 10**20], None, ("", "0xab")))
+            self.assertIsNone(group_of([*without, *lines_there], Fields()))
+            rows = [{"block": it["block"], "key": key, "value": it["value"]} for it, key in zip(rows, ("0x1", ""))]
+
+    def test_other_forms_are_not_read(self) -> None:
+        good = '{"block": 1, "value": "0x00"}'
+        self.assertTrue(self.check([good, good], Fields()))
+        for wrong in (
+            "", "{}", good[:-1], good + " ", " " + good, good + "\r", good.replace("1", "01"), good.replace("1", "-1x"),
+            good.replace("1", "1_0"), good.replace("1", " 1"), good.replace("1", "\u0661"), good.replace("1", "1.0"), good.replace(": 1", ":1"),
+            good.replace("block", "blocK"), good.replace("value", "valu"), good.replace("1,", "1,,"), good.replace(": 1", ":: 1"),
+            good.replace('"0x00"', '"0x00", "value": "0x01"'), good.replace("1", '"1"'), f"[{good}]", good * 2, good.replace("0x00", '"'),
+        ):  # fmt: skip
+            self.assertIsNone(group_of([good, wrong], Fields()), wrong)
+        self.assertEqual([are_plain(Fields(name)) for name in ("block", "a b", "\\b", 'a"', "é", "\t")], [True, True] + [False] * 4)
+
+    def test_what_is_read_is_what_json_reads(self) -> None:
+        chance, read = random.Random(11), 0
+        for style in ('{"block": 12, "key": "0xab", "value": "0xcd"}', '{"block":12,"key":"0xab","value":"0xcd"}', '{"block": 7, "value": "0x"}'):
+            for _ in range(20_000):
+                letters = list(style)
+                for _ in range(chance.randrange(4)):
+                    at = chance.randrange(len(letters))
+                    letters[at : at + chance.randrange(3)] = chance.choices('{}[]":, \\\t\r01b-.xe', k=chance.randrange(3))
+                read += self.check([style, "".join(letters)], Fields())
+        self.assertGreater(read, 15_000)
+
+
 class Folders(JobCase):
     """A run that goes on, and what it rejects."""
 
@@ -557,6 +610,7 @@ class Command(Case):
             ((*usual, "--part-bytes", "0"), f"argument --part-bytes: '0' is no number from 1 to {1 << 40}"),
             ((*usual, "--memory", "x"), f"argument --memory: 'x' is no number from 1 to {(1 << 64) - 1}"),
             ((*usual, "--workers", "1", "--scheduler", "a"), "argument --scheduler: not allowed with argument --workers"),
+            ((*usual, "--key-field", "value"), "two fields have one name"),
             ((*usual, "--more"), "unrecognized arguments: --more"),
             ((*usual, "--versions", self.write("v", f"0 1 {self.metadata}"), "-i", "hex"), "--versions needs rows with blocks: --input json"),
         ):  # fmt: skip
@@ -631,8 +685,8 @@ def digests(out: pathlib.Path) -> dict[str, str]:
 class ClusterCase(Case):
     """Runs over two files, of which every hundredth row is spoilt."""
 
-    rows = 60_000
-    part_bytes = 300_000
+    rows = 30_000
+    part_bytes = 150_000
     inputs: pathlib.Path
     #: The texts of all files that a run has to write, and their sums.
     parts: dict[str, str]
@@ -759,17 +813,33 @@ class Runs(ClusterCase):
         self.finish("--workers", "1")
 
 
-    def test_workers_of_a_run_come_back_when_they_are_killed(self) -> None:
-        chance = random.Random(8)
-        process = self.start("--workers", "2")
-        for part in (0, 20, 40):
-            self.wait_for_parts(process, part)
-            while not workers_of(process.pid):
-                time.sleep(0.01)
-            chance.choice(workers_of(process.pid)).kill()
+    def kill_worker(self, process: subprocess.Popen[str], parts: int) -> bool:
+        """Kills a worker of a run that has finished so many parts, and returns whether others were missing then."""
+        self.wait_for_parts(process, parts)
+        time.sleep(random.uniform(0, 0.05))
+        found = workers_of(process.pid)
+        if not found or len(list(self.out.glob("part-*"))) >= len(self.expected) - 1:
+            return False
+        random.choice(found).kill()
+        return True
+
+    def test_workers_that_are_killed_at_any_time_change_nothing(self) -> None:
+        kills = 0
+        while kills < 10:
+            shutil.rmtree(self.out, ignore_errors=True)
+            process = self.start("--workers", "2")
+            for parts in sorted(random.sample(range(len(self.expected) - 10), 5)):
+                kills += self.kill_worker(process, parts)
+            out, err = process.communicate(timeout=120)
+            self.assertEqual((process.returncode, err), (0, ""))
+            self.check_output()
+
+    def test_workers_that_can_not_start_are_one_line(self) -> None:
+        with mock.patch.dict(os.environ, DASK_DISTRIBUTED__WORKER__PRELOAD="no.such.module"):
+            process = self.start("--workers", "1")
         out, err = process.communicate(timeout=120)
-        self.assertEqual((process.returncode, err), (0, ""))
-        self.check_output()
+        line = "scaleview: the workers end again and again: is there enough memory?\n"
+        self.assertEqual((process.returncode, out, err), (4, "", line))
 
     def test_no_scheduler_is_one_line(self) -> None:
         for address in ("tcp://127.0.0.1:9", "nonsense://x"):
@@ -792,49 +862,21 @@ class Runs(ClusterCase):
 
 @NEEDS_CLUSTER
 class Clusters(ClusterCase):
-    """Runs on a cluster of two workers, which come back when they are killed."""
+    """Runs on a cluster of two workers."""
 
     def setUp(self) -> None:
         super().setUp()
         from distributed import LocalCluster
 
         settings = {"silence_logs": logging.CRITICAL, "local_directory": str(self.folder / "workers")}
-        self.cluster = LocalCluster(2, threads_per_worker=1, dashboard_address=None, **settings)
+        address = {"dashboard_address": "127.0.0.1:0"}
+        self.cluster = LocalCluster(2, threads_per_worker=1, dashboard_address=None, scheduler_kwargs=address, **settings)
         self.addCleanup(self.cluster.close)
 
     def run_on_cluster(self, words: list[str]) -> tuple[int, str, str]:
         with contextlib.redirect_stdout(io.StringIO()) as out, contextlib.redirect_stderr(io.StringIO()) as err:
             status = command.main([*words, "--scheduler", self.cluster.scheduler_address])
         return status, out.getvalue(), err.getvalue()
-
-    def kill_after(self, seconds: float, is_done: threading.Event, killed: list[int]) -> None:
-        """Kills a worker after some time, unless the run is done by then."""
-        time.sleep(seconds)
-        while not is_done.is_set():
-            pids = [nanny.pid for nanny in self.cluster.workers.values() if nanny.pid]
-            if pids:
-                killed.append(random.choice(pids))
-                os.kill(killed[-1], signal.SIGKILL)
-                return
-
-    def test_workers_that_are_killed_at_any_time_change_nothing(self) -> None:
-        began = time.monotonic()
-        self.assertEqual(self.run_on_cluster(self.words())[0], 0)
-        self.check_output()
-        seconds, killed = time.monotonic() - began, []
-        for _ in range(100):
-            shutil.rmtree(self.out)
-            is_done = threading.Event()
-            killer = threading.Thread(target=self.kill_after, args=(random.uniform(0, seconds), is_done, killed))
-            killer.start()
-            status, _, err = self.run_on_cluster(self.words())
-            is_done.set()
-            killer.join()
-            self.assertEqual((status, err), (0, ""))
-            self.check_output()
-            if len(killed) == 10:
-                break
-        self.assertEqual(len(killed), 10)
 
     def test_compressed_files_are_decoded_with_a_bar(self) -> None:
         files = []
@@ -863,6 +905,10 @@ class Clusters(ClusterCase):
         self.assertEqual([path.name for path in self.out.iterdir()], ["state"])
 
     def test_a_scheduler_that_ends_is_one_line(self) -> None:
+        import dask
+
+        settings = dask.config.set({"distributed.comm.timeouts.connect": "1s"})
+        self.addCleanup(settings.__exit__, None, None, None)
         closer = threading.Timer(0.5, lambda: self.cluster.loop.add_callback(self.cluster.scheduler.close))
         closer.start()
         status, out, err = self.run_on_cluster(self.words("--part-bytes", "20000"))

@@ -5,10 +5,11 @@ from __future__ import annotations
 
 import contextlib
 import dataclasses
+import functools
 import itertools
 import logging
 import uuid
-from typing import Any, Iterator, List, Optional, Set, Tuple, Union
+from typing import Any, Dict, Iterator, List, Optional, Set, Tuple, Union
 
 import dask.config
 import dask.system
@@ -22,6 +23,7 @@ from distributed import (
     get_worker,
     wait,
 )
+from distributed.comm import CommClosedError
 
 from .failures import Failure, Status, as_failures
 from .folder import Folder
@@ -97,7 +99,8 @@ def run(job: Job, where: Union[Workers, Scheduler], progress: Progress) -> Summa
         if first is not None:
             with _quiet(), _cluster_of(where, folder) as cluster:
                 if job.packing is Packing.GZIP:
-                    cluster.client.subscribe_topic(topic, lambda event: progress.add(event[1]))
+                    report = functools.partial(_add_reported, progress)
+                    cluster.client.subscribe_topic(topic, report)
                 _run_tasks(cluster, itertools.chain([first], tasks), progress)
         progress.end()
         return folder.join(job)
@@ -126,9 +129,13 @@ def _decode_gzip(job: Job, input: int, topic: str) -> None:
     """Decodes a compressed file on a worker, and reports each part."""
 
     def report(part: Part, summary: Summary) -> None:
-        get_worker().log_event(topic, summary)
+        get_worker().log_event(topic, dataclasses.asdict(summary))
 
     decode_gzip(job, input, report)
+
+
+def _add_reported(progress: Progress, event: Tuple[float, Dict[str, Any]]) -> None:
+    progress.add(Summary(**event[1]))
 
 
 @contextlib.contextmanager
@@ -161,7 +168,12 @@ def _start(count: int, folder: Folder, stack: contextlib.ExitStack) -> Cluster:
     """Starts a scheduler in this process, and worker processes."""
     stack.enter_context(dask.config.set({"distributed.scheduler.allowed-failures": _MOST_DEATHS}))
     local = LocalCluster(
-        n_workers=0, processes=True, dashboard_address=None, silence_logs=logging.CRITICAL
+        n_workers=0,
+        processes=True,
+        silence_logs=logging.CRITICAL,
+        dashboard_address=None,
+        # Without a dashboard there is still a server. Any free port will do for it.
+        scheduler_kwargs={"dashboard_address": "127.0.0.1:0"},
     )
     address = stack.enter_context(local).scheduler_address
     client = stack.enter_context(Client(address))
@@ -210,7 +222,7 @@ def _result_of(future: Future) -> Optional[Summary]:
     except KilledWorker:
         line = "a part ended all workers that had it: is there enough memory?"
         raise Failure(Status.MEMORY, line) from None
-    except CancelledError:
+    except (CancelledError, CommClosedError):
         raise Failure(Status.DEVICE, "the scheduler is gone") from None
     except ImportError as error:
         raise Failure(Status.DEVICE, f"a worker has another scaleview or none: {error}") from None
