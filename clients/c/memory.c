@@ -77,6 +77,10 @@ static int run(long request) {
     code = scaleview_decode(registry, type, 64, 1 << 24, 0, bytes[1], length, out, sizeof out, &answer);
     check("a value", is_answer(code), request);
     wants += code == SCALEVIEW_MEMORY;
+    scaleview_step steps[65];
+    code = scaleview_path_of(registry, type, 64, 1 << 24, 0, bytes[1], length / 2, steps, 65, &answer);
+    check("a path to where it ends", is_answer(code), request);
+    wants += code == SCALEVIEW_MEMORY;
     scaleview_answer room;
     code = scaleview_decode_nodes(registry, type, 64, 1 << 24, 0, bytes[1], length, nodes, 1 << 16, pool, sizeof pool, &room);
     check("nodes", is_answer(code), request);

@@ -188,16 +188,24 @@ typedef struct scaleview_node {
     uint64_t high;     /* a number's high half, how many bytes it has in the pool, or how many bits it has */
 } scaleview_node;
 
+/* A step of the path from a value to one of its parts: a node, and which of its parts is meant. */
+typedef struct scaleview_step {
+    uint32_t type; /* the position of the node's type */
+    uint32_t arm;  /* of a variant, the position of its arm, which is not its index; otherwise 0 */
+    uint32_t part; /* the position of the part, from 0: of a field, a member or an element */
+} scaleview_step;
+
 /* What a call reports besides its code, which is repeated here. Numbers are 0 unless the code gives them a meaning. */
 typedef struct scaleview_answer {
     uint32_t code;
     uint32_t from;   /* the position of the type that has the unknown reference, or that metadata refers to; the version of an
-                      * open registry's metadata; the type of a part or of a name; or the index of an arm */
+                      * open registry's metadata; the type of a part, of a name or at the end of a path; or the index of an
+                      * arm */
     uint64_t at;     /* the place of an error, or where an open registry ends or an opaque value begins, in bytes from the
-                      * start of the input; 1 if a part has a name or a name has bytes; the number of an arm's fields; the
-                      * position of a type or of a node; or the number of bytes of a pool */
-    uint64_t length; /* the number of bytes of a text, of a name's bytes, of an opaque value, of types, of nodes, or of bytes of
-                      * a piece that belong to the value */
+                      * start of the input; 1 if a part has a name, a name has bytes or a path ends at a node; the number of an
+                      * arm's fields; the position of a type or of a node; or the number of bytes of a pool */
+    uint64_t length; /* the number of bytes of a text, of a name's bytes, of an opaque value, of types, of nodes, of steps, or
+                      * of bytes of a piece that belong to the value */
 } scaleview_answer;
 
 /* An open registry, or null: `inside` is NULL, as after `= {NULL}` and after scaleview_close. It may be copied. All copies
@@ -408,6 +416,21 @@ uint32_t scaleview_decode(scaleview_registry registry, uint32_t type, uint16_t d
 uint32_t scaleview_decode_nodes(scaleview_registry registry, uint32_t type, uint16_t depth, uint64_t limit, uint64_t memory,
                                 const uint8_t *bytes, size_t length, scaleview_node *nodes, size_t node_room, uint8_t *pool,
                                 size_t pool_room, scaleview_answer *answer);
+
+/* Reports where in a value its bytes are rejected or end. The numbers are those of scaleview_decode, which returned a code of
+ * SCALEVIEW_VALUE_* for the same bytes. They are decoded again, up to the error, and nothing after it matters.
+ *
+ * The path is written to the front of `steps`: `answer->length` steps, the first one from the value itself, the next one from
+ * the part that the first one names, and so on. The part that the last step names is the node at which the bytes are rejected
+ * or end; `answer->from` is its type, and `answer->at` is 1. It is the value itself if there are no steps. A type that is
+ * wrapped has a step too, since it is the only part of a composite or of a tuple. If the bytes begin with a complete value,
+ * as they do with SCALEVIEW_VALUE_TRAILING_BYTES, there are no steps, and both numbers are 0.
+ *
+ * There are at most `depth` + 1 steps. If they have no room, the call returns SCALEVIEW_NO_ROOM with the same numbers.
+ * Otherwise it returns SCALEVIEW_UNKNOWN_TYPE, SCALEVIEW_LIMIT_OUT_OF_RANGE, SCALEVIEW_MEMORY or SCALEVIEW_NO_HANDLE. Unless
+ * it returns SCALEVIEW_OK, nothing is written. */
+uint32_t scaleview_path_of(scaleview_registry registry, uint32_t type, uint16_t depth, uint64_t limit, uint64_t memory,
+                           const uint8_t *bytes, size_t length, scaleview_step *steps, size_t room, scaleview_answer *answer);
 
 /* Encodes the value, of the type at this position, whose nodes these are, and writes its bytes to the front of `out`:
  * `answer->length` bytes, which scaleview_decode_nodes turns into the same nodes. No node is deeper than `depth`, up to 1024.

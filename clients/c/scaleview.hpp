@@ -22,6 +22,7 @@
 namespace scaleview {
 
 using node = scaleview_node;
+using step = scaleview_step;
 using type_shape = scaleview_type_shape;
 
 /* Bytes that are read: of a vector, an array or a string of bytes, or a pointer and a length. */
@@ -155,6 +156,14 @@ class description {
 
     // Its strings stay where they are when it grows or is moved.
     std::deque<std::string> names_;
+};
+
+/* Where in a value its bytes are rejected or end. */
+struct error_path {
+    /* From the value itself to the node there. */
+    std::vector<step> steps;
+    /* The type of that node; none if the bytes begin with a complete value. */
+    std::optional<std::uint32_t> type;
 };
 
 /* The nodes of a value, each before its children, and their bytes. */
@@ -485,6 +494,45 @@ class registry {
                                               bytes.data(), bytes.size(), nodes, room, pool,
                                               pool_room, answer);
             });
+    }
+
+    /* Where in a value its bytes are rejected or end, of bytes and limits with which it is not decoded. */
+    error_path path_of(std::uint32_t id, bytes_view bytes, const limits &within = {}) const {
+        error_path found{std::vector<step>(std::size_t{within.depth} + 1), std::nullopt};
+        scaleview_answer answer;
+        scaleview_path_of(handle(), id, within.depth, within.bytes, within.budget(bytes.size()), bytes.data(), bytes.size(),
+                          found.steps.data(), found.steps.size(), &answer);
+        detail::expect_ok(answer, id);
+        found.steps.resize(detail::size_of(answer.length));
+        if (answer.at == 1) found.type = answer.from;
+        return found;
+    }
+
+    /* The steps as text, such as "Balances[0].transfer_allow_death.value": arms and fields by their names, and fields without
+     * one, members and elements by their positions. */
+    std::string path_text(const std::vector<step> &steps) const {
+        std::string text;
+        const auto join = [&](const std::string &name) { text += (text.empty() ? "" : ".") + name; };
+        for (const auto &one : steps) {
+            const auto kind = type(one.type).kind;
+            const bool is_variant = kind == SCALEVIEW_VARIANT;
+            if (is_variant)
+                join(text_of(one.type, [&](auto out, auto room, auto answer) {
+                    return scaleview_arm(handle(), one.type, one.arm, out, room, answer);
+                }));
+            if (is_variant || kind == SCALEVIEW_COMPOSITE) {
+                const auto [name, answer] = named(one.type, [&](auto out, auto room, auto last) {
+                    if (is_variant) return scaleview_arm_field(handle(), one.type, one.arm, one.part, out, room, last);
+                    return scaleview_part(handle(), one.type, one.part, out, room, last);
+                });
+                if (answer.at == 1) {
+                    join(name);
+                    continue;
+                }
+            }
+            text += "[" + std::to_string(one.part) + "]";
+        }
+        return text;
     }
 
     /* The name of a variant's arm; none for other nodes. */

@@ -186,6 +186,12 @@ static void check_opaque(const scaleview::registry &registry) {
     check("its number", value.nodes.at(now).low == 1234 && !registry.arm_name(value.nodes.at(now)));
     check("no such field", !registry.child(value, call, "then"));
     check("no fields", !registry.child(value, now, "now"));
+    const auto path = registry.path_of(extrinsic, scaleview::opaque(bytes).sub(0, 4));
+    check("a path", path.steps.size() == 2 && registry.path_text(path.steps) == "bare.call.set.now");
+    check("its end", path.type && registry.type(*path.type).primitive == SCALEVIEW_U32);
+    const auto whole = registry.path_of(extrinsic, scaleview::opaque(bytes));
+    check("no path", whole.steps.empty() && !whole.type && registry.path_text(whole.steps).empty());
+    check("a path in no type", thrown([&] { registry.path_of(99, bytes); }, 99) == "type: UnknownType 99");
     check("cut", thrown([&] { scaleview::opaque(shorter); }, 6) == "value: Truncated at 6");
     check("a byte more", thrown([&] { scaleview::opaque(longer); }, 7) == "value: TrailingBytes at 7");
 }

@@ -11,6 +11,7 @@ mod lent;
 mod nodes;
 mod opaque;
 mod opened;
+mod paths;
 mod reasons;
 mod registries;
 mod resource;
