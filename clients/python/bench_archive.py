@@ -7,10 +7,11 @@ ROWS is 4,000,000 if it isn't given, and 10,000,000 shows that memory is flat. T
 in lines of JSON, with a block and without keys, in a folder that is removed at the end. It needs
 about 500 bytes for each row in TMPDIR.
 
-Two loops are measured. The first one has the bytes of values at hand and drops the values; the
-second one reads the same file, and writes what `json.dumps` makes of the values. The command's times
-are those of all the command, and without the start of the cluster, which is the time of a run over
-one row.
+Three loops are measured. The first one has the bytes of values at hand and drops the values. The
+second one reads the rows of the file that the command reads, by `json.loads`, and drops the values:
+the command is compared with it. The third one also writes what `json.dumps` makes of the values, as
+the command does. The command's times are those of all the command, and without the start of the
+cluster, which is the time of a run over one row. Each rate is the best of two.
 """
 
 from __future__ import annotations
@@ -19,12 +20,13 @@ import json
 import os
 import pathlib
 import random
+import shutil
 import subprocess
 import sys
 import tempfile
 import threading
 import time
-from typing import Dict, Iterator, List, Tuple
+from typing import Callable, Dict, Iterator, List, Tuple
 
 from scaleview import Metadata, to_json_for_browsers
 
@@ -66,7 +68,17 @@ def batches(path: pathlib.Path) -> Iterator[List[str]]:
             yield lines
 
 
-def loop_over_file(path: pathlib.Path, out: pathlib.Path) -> float:
+def loop_over_file(path: pathlib.Path) -> float:
+    """The rows a second of `decode_many` over the rows of a file."""
+    metadata, count = Metadata(CHAIN.read_bytes()), 0
+    type_id = int(metadata.type_of(NAME))
+    began = time.perf_counter()
+    for lines in batches(path):
+        count += len(metadata.decode_many(type_id, [json.loads(line)["value"] for line in lines]))
+    return count / (time.perf_counter() - began)
+
+
+def loop_with_texts(path: pathlib.Path, out: pathlib.Path) -> float:
     """The rows a second of a loop that does what the command does."""
     metadata, count = Metadata(CHAIN.read_bytes()), 0
     type_id = int(metadata.type_of(NAME))
@@ -107,7 +119,40 @@ def command(path: pathlib.Path, out: pathlib.Path, workers: int) -> Tuple[float,
         time.sleep(0.25)
     if process.returncode:
         sys.exit(f"the command ended with {process.returncode}")
+    shutil.rmtree(out)
     return time.perf_counter() - began, held
+
+
+def show_loops(folder: pathlib.Path, rows: int) -> float:
+    """Measures the loops over some rows, and returns the rate of the second one."""
+    path, out = folder / "few.jsonl", folder / "loop.jsonl"
+    few = min(rows, 300_000)
+    make(path, few)
+    found = 0.0
+    calls: List[Tuple[str, Callable[[], float]]] = [
+        ("a loop over decode_many, in memory", lambda: loop_in_memory(few)),
+        ("the same over the rows of a file", lambda: loop_over_file(path)),
+        ("the same with texts that are written", lambda: loop_with_texts(path, out)),
+    ]
+    for what, loop in calls:
+        rate = max(loop() for _ in range(2))
+        found = rate if "of a file" in what else found
+        print(f"{what:40}{rate:12,.0f} rows/s", flush=True)
+    return found
+
+
+def show_workers(folder: pathlib.Path, rows: int, counts: List[int], of_loop: float) -> None:
+    """Measures the command with each number of workers."""
+    path, one, first = folder / "rows.jsonl", folder / "one.jsonl", 0.0
+    make(one, 1)
+    for workers in counts:
+        start = min(command(one, folder / "out", workers)[0] for _ in range(2))
+        seconds, held = min((command(path, folder / "out", workers) for _ in range(2)), key=lambda it: it[0])
+        rate = rows / (seconds - start)
+        first = first or rate / workers
+        print(f"{workers} workers, {seconds:.1f} s, {start:.1f} s of them to start: {rows / seconds:,.0f} rows/s, {rate:,.0f} without the start")
+        print(f"  {rate / of_loop:.2f} of the loop over a file, {rate / first / workers:.2f} of as many times one worker's")
+        show_memory(held)
 
 
 def main() -> None:
@@ -115,32 +160,18 @@ def main() -> None:
     counts = [int(word) for word in sys.argv[2:]] or WORKERS
     with tempfile.TemporaryDirectory() as made:
         folder = pathlib.Path(made)
-        path, one = folder / "rows.jsonl", folder / "one.jsonl"
-        make(path, rows)
-        make(one, 1)
-        print(f"{rows} rows, {path.stat().st_size} bytes, load {os.getloadavg()[0]:.1f}, {os.cpu_count()} processors")
-        in_memory = loop_in_memory(min(rows, 1_000_000))
-        print(f"a loop over decode_many      {in_memory:12,.0f} rows/s")
-        few = folder / "few.jsonl"
-        make(few, min(rows, 300_000))
-        print(f"the loop with the file       {loop_over_file(few, folder / 'loop.jsonl'):12,.0f} rows/s")
-        first = 0.0
-        for workers in counts:
-            start, _ = command(one, folder / f"one-{workers}", workers)
-            seconds, held = command(path, folder / f"out-{workers}", workers)
-            rate = rows / (seconds - start)
-            first = first or rate / workers
-            print(f"{workers} workers, all the command   {rows / seconds:12,.0f} rows/s, {seconds:.1f} s")
-            print(f"{workers} workers, without its start {rate:12,.0f} rows/s, {rate / in_memory:.2f} of the loop, "
-                  f"{rate / first / workers:.2f} of as many times one worker's")  # fmt: skip
-            show_memory(held)
+        make(folder / "rows.jsonl", rows)
+        size = (folder / "rows.jsonl").stat().st_size
+        print(f"{rows} rows, {size} bytes, load {os.getloadavg()[0]:.1f}, {os.cpu_count()} processors", flush=True)
+        show_workers(folder, rows, counts, show_loops(folder, rows))
+        print(f"load {os.getloadavg()[0]:.1f}")
 
 
 def show_memory(held: List[int]) -> None:
     """The greatest resident memory of a worker in each tenth of a run."""
     size = max(len(held) // 10, 1)
     tenths = [max(held[at : at + size]) >> 20 for at in range(0, len(held), size)][:10]
-    print(f"  MiB of a worker in each tenth of the time: {' '.join(map(str, tenths))}")
+    print(f"  MiB of a worker in each tenth of the time: {' '.join(map(str, tenths))}", flush=True)
 
 
 if __name__ == "__main__":

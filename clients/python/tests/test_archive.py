@@ -33,7 +33,7 @@ from scaleview.archive.job import Fields, Job, Packing
 from scaleview.archive.progress import Progress, clock
 from scaleview.archive.sources import EVERYTHING, Fault, Source, gzip_source, lines, part_starts, plain_source, values
 from scaleview.archive.tasks import decode_gzip, decode_part, parts_of
-from scaleview.archive.usual import are_plain, group_of
+from scaleview.archive.usual import are_plain, fields_of, groups_of
 
 CHAIN = pathlib.Path(__file__).resolve().parents[3] / "examples" / "chain"
 HAS_CLUSTER = importlib.util.find_spec("distributed") is not None
@@ -412,28 +412,34 @@ class UsualLines(unittest.TestCase):
 
     def check(self, lines_there: list[str], fields: Fields) -> bool:
         """Returns whether the fields are read. If the texts in them are digits, json reads the same ones."""
-        found = group_of(lines_there, fields)
+        found = fields_of("\n".join(lines_there), fields)
         if found is None:
             return False
         keys = found.keys or [None] * len(lines_there)
-        for line, block, key, value in zip(lines_there, found.blocks, keys, found.values):
+        for line, block, key, value in zip(lines_there, map(int, found.blocks), keys, found.values):
             if set(value) | set(key or "") <= set("0123456789abcdefABCDEFx"):
                 expected = {fields.block: block, fields.key: key, fields.value: value}
                 self.assertEqual({name: its for name, its in expected.items() if its is not None}, json.loads(line))
         return True
 
     def test_both_forms_are_read(self) -> None:
-        rows = [{"block": 0, "key": "0x1", "value": ""}, {"block": 10**20, "key": "", "value": "0xab"}]
+        rows = [{"block": 0, "key": "0x1", "value": ""}, {"block": 10**17, "key": "", "value": "0xab"}]
         for separators in ((", ", ": "), (",", ":")):
             lines_there = [json.dumps(it, separators=separators) for it in rows]
-            found = group_of(lines_there, Fields())
-            self.assertEqual(found, ([0, 10**20], ("0x1", ""), ("", "0xab")))
+            found = fields_of("\n".join(lines_there), Fields())
+            self.assertEqual(found, (["0", str(10**17)], ["0x1", ""], ["", "0xab"]))
             for it in rows:
                 del it["key"]
             without = [json.dumps(it, separators=separators) for it in rows]
-            self.assertEqual(group_of(without, Fields()), ([0, 10**20], None, ("", "0xab")))
-            self.assertIsNone(group_of([*without, *lines_there], Fields()))
+            self.assertEqual(fields_of("\n".join(without), Fields()), (["0", str(10**17)], None, ["", "0xab"]))
+            self.assertIsNone(fields_of("\n".join([*without, *lines_there]), Fields()))
             rows = [{"block": it["block"], "key": key, "value": it["value"]} for it, key in zip(rows, ("0x1", ""))]
+
+    def test_groups_are_whole_lines(self) -> None:
+        for text in ("", "a", "\n", "a\n", "\n\n", "x" * 40000, "x" * 40000 + "\n", "ab\n" * 20000, "\n" * 40000, "y\n" + "x" * 16384 + "\nz"):
+            groups = list(groups_of(text))
+            self.assertEqual("\n".join(groups), text)
+            self.assertEqual([len(it) for it in groups if len(it) > 16384 and "\n" in it], [])
 
     def test_other_forms_are_not_read(self) -> None:
         good = '{"block": 1, "value": "0x00"}'
@@ -444,7 +450,8 @@ class UsualLines(unittest.TestCase):
             good.replace("block", "blocK"), good.replace("value", "valu"), good.replace("1,", "1,,"), good.replace(": 1", ":: 1"),
             good.replace('"0x00"', '"0x00", "value": "0x01"'), good.replace("1", '"1"'), f"[{good}]", good * 2, good.replace("0x00", '"'),
         ):  # fmt: skip
-            self.assertIsNone(group_of([good, wrong], Fields()), wrong)
+            self.assertIsNone(fields_of(f"{good}\n{wrong}", Fields()), wrong)
+            self.assertIsNone(fields_of(f"{wrong}\n{good}", Fields()), wrong)
         self.assertEqual([are_plain(Fields(name)) for name in ("block", "a b", "\\b", 'a"', "é", "\t")], [True, True] + [False] * 4)
 
     def test_what_is_read_is_what_json_reads(self) -> None:
@@ -782,9 +789,8 @@ class Runs(ClusterCase):
 
     def test_a_run_that_is_killed_goes_on(self) -> None:
         chance, most = random.Random(7), len(self.expected) - 2
-        for at in range(3):
-            process = self.start("--workers", "2")
-            with process:
+        for _ in range(2):
+            with self.start("--workers", "2") as process:
                 known = self.finished() if self.out.exists() else {}
                 self.wait_for_parts(process, chance.randrange(len(known), most))
                 os.kill(process.pid, signal.SIGKILL)
@@ -834,16 +840,9 @@ class Runs(ClusterCase):
             self.assertEqual((process.returncode, err), (0, ""))
             self.check_output()
 
-    def test_workers_that_can_not_start_are_one_line(self) -> None:
-        with mock.patch.dict(os.environ, DASK_DISTRIBUTED__WORKER__PRELOAD="no.such.module"):
-            process = self.start("--workers", "1")
-        out, err = process.communicate(timeout=120)
-        line = "scaleview: the workers end again and again: is there enough memory?\n"
-        self.assertEqual((process.returncode, out, err), (4, "", line))
-
     def test_no_scheduler_is_one_line(self) -> None:
         for address in ("tcp://127.0.0.1:9", "nonsense://x"):
-            with mock.patch.dict(os.environ, DASK_DISTRIBUTED__COMM__TIMEOUTS__CONNECT="2s"):
+            with mock.patch.dict(os.environ, DASK_DISTRIBUTED__COMM__TIMEOUTS__CONNECT="1s"):
                 process = self.start("--scheduler", address)
             out, err = process.communicate(timeout=60)
             self.assertEqual((process.returncode, out), (3, ""))
@@ -857,21 +856,56 @@ class Runs(ClusterCase):
         out, err = process.communicate(timeout=60)
         self.assertEqual((process.returncode, out), (1, ""))
         self.assertRegex(err, r"^scaleview: .*unfinished.*: No such file or directory\n$")
-        self.finish("--workers", "1")
+
+    def test_a_scheduler_that_ends_is_one_line(self) -> None:
+        file, words = self.folder / "scheduler.json", ["--port", "0", "--host", "127.0.0.1", "--dashboard-address", "127.0.0.1:0"]
+        program = [sys.executable, "-m", "distributed.cli.dask_scheduler", *words, "--scheduler-file", str(file)]
+        with subprocess.Popen(program, stderr=subprocess.DEVNULL) as scheduler:
+            while not file.exists() or not file.read_text():
+                time.sleep(0.05)
+            with mock.patch.dict(os.environ, DASK_DISTRIBUTED__COMM__TIMEOUTS__CONNECT="1s"):
+                process = self.start("--scheduler", json.loads(file.read_text())["address"])
+            while not (self.out / "state" / "manifest.json").exists():
+                time.sleep(0.05)
+            time.sleep(1)
+            scheduler.kill()
+        out, err = process.communicate(timeout=60)
+        self.assertEqual((process.returncode, out, err), (3, "", "scaleview: the scheduler is gone\n"))
+
+    def test_workers_and_tasks_that_end_again_and_again_end_the_run(self) -> None:
+        from distributed import CancelledError, KilledWorker
+        from scaleview.archive import run
+
+        processes = mock.Mock(count=2, deaths=25)
+        cluster = run.Cluster(mock.Mock(), processes)
+        with self.assertRaisesRegex(Failure, "^the workers end again and again: is there enough memory\\?$") as raised:
+            cluster.check()
+        self.assertEqual(raised.exception.status, 4)
+        cluster.note_progress()
+        cluster.check()
+        processes.deaths = 45
+        cluster.check()
+        for error, status in ((KilledWorker("task", mock.Mock(), 3), 4), (CancelledError("task"), 3), (ImportError("no"), 3)):
+            with self.assertRaises(Failure) as raised:
+                run._result_of(mock.Mock(result=mock.Mock(side_effect=error)))
+            self.assertEqual(raised.exception.status, status)
 
 
 @NEEDS_CLUSTER
 class Clusters(ClusterCase):
     """Runs on a cluster of two workers."""
 
-    def setUp(self) -> None:
-        super().setUp()
+    @classmethod
+    def setUpClass(cls) -> None:
+        super().setUpClass()
         from distributed import LocalCluster
 
-        settings = {"silence_logs": logging.CRITICAL, "local_directory": str(self.folder / "workers")}
+        settings = {"silence_logs": logging.CRITICAL, "local_directory": str(cls.inputs / "workers")}
         address = {"dashboard_address": "127.0.0.1:0"}
-        self.cluster = LocalCluster(2, threads_per_worker=1, dashboard_address=None, scheduler_kwargs=address, **settings)
-        self.addCleanup(self.cluster.close)
+        cls.cluster = LocalCluster(2, threads_per_worker=1, dashboard_address=None, scheduler_kwargs=address, **settings)
+        cls.addClassCleanup(cls.cluster.close)
+
+    cluster: Any
 
     def run_on_cluster(self, words: list[str]) -> tuple[int, str, str]:
         with contextlib.redirect_stdout(io.StringIO()) as out, contextlib.redirect_stderr(io.StringIO()) as err:
@@ -903,16 +937,6 @@ class Clusters(ClusterCase):
             found = self.run_on_cluster([str(CHAIN / "chain.metadata"), ACCOUNT, str(file), "--out", str(self.out)])
         self.assertEqual(found, (1, "", f"scaleview: {file}: it has changed since the run began\n"))
         self.assertEqual([path.name for path in self.out.iterdir()], ["state"])
-
-    def test_a_scheduler_that_ends_is_one_line(self) -> None:
-        import dask
-
-        settings = dask.config.set({"distributed.comm.timeouts.connect": "1s"})
-        self.addCleanup(settings.__exit__, None, None, None)
-        closer = threading.Timer(0.5, lambda: self.cluster.loop.add_callback(self.cluster.scheduler.close))
-        closer.start()
-        status, out, err = self.run_on_cluster(self.words("--part-bytes", "20000"))
-        self.assertEqual((status, out, err), (3, "", "scaleview: the scheduler is gone\n"))
 
 
 if __name__ == "__main__":

@@ -8,7 +8,7 @@ from typing import Any, Callable, Dict, List, NamedTuple, NoReturn, Optional, Un
 from .. import OutOfMemory, Refused
 from .job import Form, Job
 from .sources import Fault, Piece
-from .usual import GROUP, Group, are_plain, group_of
+from .usual import Group, are_plain, fields_of, groups_of
 from .versions import Types, Versions
 
 
@@ -39,6 +39,9 @@ Write = Callable[[List[str], List[Rejection]], None]
 
 # So many characters of texts, or so many rejections, are written together.
 _MOST_HELD, _MOST_REJECTIONS = 1 << 20, 1 << 12
+
+# So many values are decoded together, as long as none is rejected.
+_GROUP = 64
 
 # A ValueError or a RecursionError that is none of these comes from the module json.
 _REJECTED = (Refused, OutOfMemory, WrongRow, ValueError, RecursionError)
@@ -122,7 +125,7 @@ class Rows:
             except UnicodeDecodeError:
                 self._add_bytes(piece.split(b"\n"))
             else:
-                self._add_json(_lines_of(text))
+                self._add_json(text)
 
     def flush(self) -> None:
         """Writes what came of the rows so far."""
@@ -147,10 +150,10 @@ class Rows:
     def _add_values(self, values: Union[List[bytes], List[str]]) -> None:
         """Adds values that have no other fields, as bytes or digits."""
         write = self._versions.types_at(0).value
-        for start in range(0, len(values), GROUP):
-            group = values[start : start + GROUP]
+        for start in range(0, len(values), _GROUP):
+            group = values[start : start + _GROUP]
             try:
-                self._hold([f'{{"value":{write(value)}}}' for value in group])
+                self._hold([f'{{"value":{text}}}' for text in map(write, group)])
             except _REJECTED:
                 self._add_each(group, write)
 
@@ -170,20 +173,19 @@ class Rows:
             except UnicodeDecodeError as error:
                 self._reject(None, error)
             else:
-                self._add_json(_lines_of(text))
+                self._add_line(text)
 
-    def _add_json(self, lines: List[str]) -> None:
+    def _add_json(self, text: str) -> None:
         """Adds lines of JSON."""
-        for start in range(0, len(lines), GROUP):
-            group = lines[start : start + GROUP]
+        for lines in groups_of(text):
             try:
-                texts = self._texts_of(group_of(group, self._names) if self._are_plain else None)
+                texts = self._texts_of(fields_of(lines, self._names) if self._are_plain else None)
             except _REJECTED:
                 texts = None
             if texts is not None:
                 self._hold(texts)
             else:
-                for line in group:
+                for line in lines.split("\n"):
                     self._add_line(line)
 
     def _texts_of(self, group: Optional[Group]) -> Optional[List[str]]:
@@ -192,18 +194,17 @@ class Rows:
         if group is None:
             return None
         blocks, keys, values = group
-        types = self._types
-        if not types.first <= min(blocks) <= max(blocks) <= types.last:
+        numbers = list(map(int, blocks)) if self._needs_block else [0]
+        if not self._types.first <= min(numbers) <= max(numbers) <= self._types.last:
             return None
-        write, write_key = types.value, types.key
+        write, write_key = self._types.value, self._types.key
         if keys is None:
-            return [f'{{"block":{at},"value":{write(value)}}}' for at, value in zip(blocks, values)]
+            texts = map(write, values)
+            return [f'{{"block":{block},"value":{text}}}' for block, text in zip(blocks, texts)]
         if write_key is None:
             return None
-        return [
-            f'{{"block":{at},"key":{write_key(key)},"value":{write(value)}}}'
-            for at, key, value in zip(blocks, keys, values)
-        ]
+        triples = zip(blocks, map(write_key, keys), map(write, values))
+        return [f'{{"block":{block},"key":{key},"value":{text}}}' for block, key, text in triples]
 
     def _add_line(self, line: str) -> None:
         """Adds a line of JSON of any form."""

@@ -23,7 +23,7 @@ from distributed import (
     get_worker,
     wait,
 )
-from distributed.comm import CommClosedError
+from distributed.comm.core import CommClosedError
 
 from .failures import Failure, Status, as_failures
 from .folder import Folder

@@ -8,23 +8,28 @@ decoded. Where they are, the line is JSON and means this.
 from __future__ import annotations
 
 import re
-from typing import List, NamedTuple, Optional, Sequence, Tuple
+from typing import Iterator, List, NamedTuple, Optional
 
 from .job import Fields
 
-#: How many lines are read together.
-GROUP = 64
+# About so many characters are read together, so that one other line costs little.
+_GROUP = 1 << 14
 
 # What stands in JSON as it is.
 _PLAIN = re.compile(r"[ !#-\[\]-~]*")
+# Numbers with what stands around them.
+_BLOCKS = {
+    True: re.compile("(?:: (?:0|[1-9][0-9]{0,17}), )*"),
+    False: re.compile("(?::(?:0|[1-9][0-9]{0,17}),)*"),
+}
 
 
 class Group(NamedTuple):
-    """The fields of some lines."""
+    """The fields of some lines. Blocks are numbers as JSON has them."""
 
-    blocks: List[int]
-    keys: Optional[Sequence[str]]
-    values: Sequence[str]
+    blocks: List[str]
+    keys: Optional[List[str]]
+    values: List[str]
 
 
 def are_plain(fields: Fields) -> bool:
@@ -32,30 +37,39 @@ def are_plain(fields: Fields) -> bool:
     return all(_PLAIN.fullmatch(name) for name in fields)
 
 
-def group_of(lines: List[str], fields: Fields) -> Optional[Group]:
+def groups_of(text: str) -> Iterator[str]:
+    """Iterates over lines, some at a time."""
+    start, size = 0, len(text)
+    while start <= size:
+        end = text.rfind("\n", start, start + _GROUP) if size - start > _GROUP else size
+        if end < 0:
+            end = text.find("\n", start)
+        if end < 0:
+            end = size
+        yield text[start:end]
+        start = end + 1
+
+
+def fields_of(text: str, fields: Fields) -> Optional[Group]:
     """Returns the fields of lines, or None if one of them has another form than the first."""
-    rows = [line.split('"') for line in lines]
-    columns = list(zip(*rows))
-    if len(columns) not in (7, 11) or max(map(len, rows)) > len(columns):
+    words = text.split('"')
+    has_key = len(words) > 3 and words[3] == fields.key
+    period = 10 if has_key else 6
+    count, rest = divmod(len(words), period)
+    if rest != 1 or not count:
         return None
-    colon, comma = (": ", ", ") if columns[2][0].startswith(": ") else (":", ",")
-    shape = ["{", fields.block, None, fields.value, colon, None, "}"]
-    if len(columns) == 11:
-        shape[3:3] = [fields.key, colon, None, comma]
-    for word, column in zip(shape, columns):
-        if word is not None and column.count(word) != len(lines):
-            return None
-    blocks = _blocks_of(columns[2], colon, comma)
-    keys = columns[5] if len(columns) == 11 else None
-    return None if blocks is None else Group(blocks, keys, columns[-2])
-
-
-def _blocks_of(texts: Tuple[str, ...], colon: str, comma: str) -> Optional[List[int]]:
-    """Returns the numbers between a colon and a comma, or None if one isn't written as JSON has it."""
+    is_spaced = words[2].startswith(": ")
+    colon, comma = (": ", ", ") if is_spaced else (":", ",")
+    shape = {1: fields.block, period - 3: fields.value, period - 2: colon}
+    if has_key:
+        shape.update({4: colon, 3: fields.key, 6: comma})
+    is_usual = words[0] == "{" and words[-1] == "}"
+    is_usual = is_usual and words[period:-1:period].count("}\n{") == count - 1
+    if not is_usual or any(words[at::period].count(word) != count for at, word in shape.items()):
+        return None
+    blocks = words[2::period]
+    if not _BLOCKS[is_spaced].fullmatch("".join(blocks)):
+        return None
     start, end = len(colon), -len(comma)
-    try:
-        blocks = [int(text[start:end]) for text in texts]
-    except ValueError:
-        return None
-    is_usual = [f"{colon}{block}{comma}" for block in blocks] == list(texts)
-    return blocks if is_usual else None
+    keys = words[5::period] if has_key else None
+    return Group([block[start:end] for block in blocks], keys, words[period - 1 :: period])

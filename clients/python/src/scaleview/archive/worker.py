@@ -11,6 +11,7 @@ import os
 import sys
 import threading
 
+import dask.config
 from distributed import Worker
 
 
@@ -21,7 +22,12 @@ def _end_with_parent() -> None:
     os._exit(0)
 
 
+# Dask's profile of a worker isn't looked at, and would take its time.
+_SETTINGS = {"distributed.worker.profile.interval": "1h", "distributed.worker.profile.cycle": "1h"}
+
+
 async def _work(address: str, folder: str) -> None:
+    dask.config.set(_SETTINGS)
     async with Worker(address, nthreads=1, local_directory=folder, dashboard=False) as worker:
         await worker.finished()
 
