@@ -46,7 +46,7 @@ fn each_constant_and_call_is_declared() {
             calls += 1;
         }
     }
-    assert_eq!((constants, calls), (91, 27));
+    assert_eq!((constants, calls), (92, 28));
 }
 
 #[test]

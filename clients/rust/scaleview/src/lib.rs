@@ -39,6 +39,7 @@ mod buffer;
 mod convert;
 mod describe;
 mod error;
+mod error_path;
 mod index;
 mod item;
 mod json;
