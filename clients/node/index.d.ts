@@ -210,7 +210,10 @@ export class ScaleviewError extends Error {
   readonly part?: 'registry' | 'check' | 'type' | 'limits' | 'value';
   /** The place in bytes from the start, or in characters for OddHex and BadHex. */
   readonly place?: number;
-  /** Where a value that isn't encoded is, such as "value.list[3]". */
+  /**
+   * Where in a value its bytes are rejected, or a part isn't encoded, such as "value.list[3]".
+   * Bytes that come in pieces have none.
+   */
   readonly path?: string;
   /** The position of the rejected item of `decodeMany`. */
   readonly item?: number;

@@ -110,7 +110,7 @@ static const struct {
     {"feed", feed},               {"taken", taken},          {"finish", finish},
     {"finishText", finish_text},  {"end", end},              {"shape", shape},
     {"describe", describe},       {"find", find},            {"name", name},
-    {"nameBytes", name_bytes},    {"opaque", opaque},
+    {"nameBytes", name_bytes},    {"opaque", opaque},        {"pathOf", path_of},
 };
 
 NAPI_MODULE_INIT() {

@@ -79,6 +79,9 @@ void retain(struct shared *shared);
 void release(napi_env env, struct shared *shared);
 void release_state(struct state *state);
 
+/* The budget of memory for an input of this length. */
+uint64_t memory_for(const struct control *control, size_t length);
+
 napi_value open_registry(napi_env env, napi_callback_info info);
 napi_value close_registry(napi_env env, napi_callback_info info);
 napi_value decode(napi_env env, napi_callback_info info);
@@ -96,6 +99,7 @@ napi_value find(napi_env env, napi_callback_info info);
 napi_value name(napi_env env, napi_callback_info info);
 napi_value name_bytes(napi_env env, napi_callback_info info);
 napi_value opaque(napi_env env, napi_callback_info info);
+napi_value path_of(napi_env env, napi_callback_info info);
 
 /* A call of the library that writes text of the room that it gets. */
 typedef uint32_t text_writer(void *context, uint8_t *out, size_t room, scaleview_answer *answer);

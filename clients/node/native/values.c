@@ -4,7 +4,7 @@
 
 enum { DEEP_STACK = 1 << 21 };
 
-static uint64_t memory_for(const struct control *control, size_t length) {
+uint64_t memory_for(const struct control *control, size_t length) {
     return (uint64_t)(control->memory + control->memory_of_a_byte * (double)length);
 }
 

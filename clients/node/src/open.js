@@ -7,6 +7,7 @@ const {
   POOL_LENGTH, LIMIT, MEMORY, MEMORY_OF_A_BYTE,
 } = require('./native');
 const { errorOf, allocated } = require('./errors');
+const { located } = require('./error_path');
 const { bytesOf, unshared, lengthOf, MOST_ENCODED } = require('./arguments');
 const { records, input, INPUT_ROOM, grow, shrink, turnTo } = require('./records');
 const { Types } = require('./types');
@@ -91,7 +92,9 @@ class Open {
       addon.decode(unshared(bytes));
     }
     if (words[CODE] === 0) return this.valueAt(type, turnTo(0));
-    if (words[CODE] !== NO_ROOM) throw errorOf(answer(), { type, ...facts });
+    if (words[CODE] !== NO_ROOM) {
+      throw located(errorOf(answer(), { type, ...facts }), this, type, limits, bytes);
+    }
     grow();
     return this.decode(type, bytes, limits, facts);
   }
@@ -118,13 +121,13 @@ class Open {
         values.push(this.decode(type, batch[first], limits, { item: values.length }));
         first += 1;
       } else {
-        first += this.#decodeFilled(type, count, limits, values);
+        first += this.#decodeFilled(type, batch, { first, count }, limits, values);
       }
     }
   }
 
   /** Appends the values of as many inputs as have room, and returns how many. */
-  #decodeFilled(type, count, limits, values) {
+  #decodeFilled(type, batch, { first, count }, limits, values) {
     this.state(type, limits);
     words[COUNT] = count;
     addon.decode();
@@ -135,13 +138,16 @@ class Open {
     for (let i = 0; i < done; i += 1) values.push(read(turnTo(i)));
     if (records.isLarge) shrink();
     if (found === undefined || found.code === NO_ROOM) return done;
-    throw errorOf(found, { type, item: values.length });
+    const error = errorOf(found, { type, item: values.length });
+    throw located(error, this, type, limits, batch[first + done]);
   }
 
   decodeJson(type, bytes, limits, facts) {
     this.state(type, limits);
     const text = addon.decodeText(unshared(bytes));
-    if (words[CODE] !== 0) throw errorOf(answer(), { type, ...facts });
+    if (words[CODE] !== 0) {
+      throw located(errorOf(answer(), { type, ...facts }), this, type, limits, bytes);
+    }
     return text;
   }
 

@@ -7,7 +7,10 @@ static int skip_length(struct input *input) {
     if (!input->call->is_opaque) return 0;
     if (input->call->type < input->call->shared->count)
         scaleview_opaque(input->bytes, input->length, &answer);
-    if (answer.code != SCALEVIEW_OK) return fail_input(input, &answer);
+    if (answer.code != SCALEVIEW_OK) {
+        raise_answer(input->call->shared->state, &answer, input->call->type, input->item, 0);
+        return -1;
+    }
     input->before = answer.at;
     input->bytes += answer.at;
     input->length = (size_t)answer.length;

@@ -56,17 +56,19 @@ void raise_over_budget(const struct state *state, uint64_t memory) {
                  (unsigned long long)memory);
 }
 
+/* Raises a refusal. `path` is NULL, or where in a value it is. */
 static void raise_refused(const struct state *state, const scaleview_answer *answer, const char *part, uint32_t type,
-                          Py_ssize_t item) {
+                          Py_ssize_t item, PyObject *path) {
     uint32_t code = answer->code;
     bool has_types = code == SCALEVIEW_REGISTRY_UNKNOWN_REFERENCE, is_unknown = code == SCALEVIEW_UNKNOWN_TYPE;
     bool has_place = !has_types && code != SCALEVIEW_REGISTRY_TOO_LARGE && (code < 200 || code >= 300);
     bool has_target = has_types || is_unknown || code == SCALEVIEW_METADATA_UNKNOWN_REFERENCE;
     uint64_t target = has_types ? answer->at : is_unknown ? type : answer->from;
     raise_new(state->refused_class,
-              Py_BuildValue("(INsNNNN)", code, reason_of(code), part, number_or_none(has_place, answer->at),
+              Py_BuildValue("(INsNNNNOO)", code, reason_of(code), part, number_or_none(has_place, answer->at),
                             number_or_none(has_types, answer->from), number_or_none(has_target, target),
-                            number_or_none(item >= 0, (unsigned long long)item)));
+                            number_or_none(item >= 0, (unsigned long long)item), Py_None,
+                            path ? path : Py_None));
 }
 
 /* Raises what a call with this budget of memory answered: on this type, and on this item of several if it isn't negative. */
@@ -75,7 +77,7 @@ void raise_answer(const struct state *state, const scaleview_answer *answer, uin
     if (answer->code == SCALEVIEW_MEMORY)
         raise_out_of_memory(state, memory);
     else
-        raise_refused(state, answer, part_of(answer->code), type, item);
+        raise_refused(state, answer, part_of(answer->code), type, item, NULL);
 }
 
 /* Raises what the opening of a registry answered, whose bytes stand after so many others. A value's
@@ -89,7 +91,7 @@ void raise_unopened(const struct state *state, const scaleview_answer *answer, u
     }
     if (code != SCALEVIEW_REGISTRY_UNKNOWN_REFERENCE) placed.at += before;
     const char *part = code >= SCALEVIEW_VALUE_TRUNCATED ? "registry" : part_of(code);
-    raise_refused(state, &placed, part, 0, -1);
+    raise_refused(state, &placed, part, 0, -1, NULL);
 }
 
 /* Raises that text doesn't spell bytes, for a reason of the package's, at this character. */
@@ -111,9 +113,17 @@ void raise_name(const struct state *state, const scaleview_answer *answer, PyObj
 
 /* Raises what a call on an input answered. */
 int fail_input(const struct input *input, const scaleview_answer *answer) {
+    const struct call *call = input->call;
+    const struct state *state = call->shared->state;
     scaleview_answer placed = *answer;
     placed.at += input->before;
-    raise_answer(input->call->shared->state, &placed, input->call->type, input->item, input->memory);
+    if (answer->code == SCALEVIEW_MEMORY) {
+        raise_out_of_memory(state, input->memory);
+        return -1;
+    }
+    PyObject *path = path_of_error(input, answer);
+    raise_refused(state, &placed, part_of(answer->code), call->type, input->item, path);
+    Py_XDECREF(path);
     return -1;
 }
 

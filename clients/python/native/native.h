@@ -246,6 +246,9 @@ void raise_out_of_memory(const struct state *state, uint64_t memory);
 void raise_over_budget(const struct state *state, uint64_t memory);
 PyObject *reason_of(uint32_t code);
 
+/* error_path.c: where in a value its bytes are rejected. */
+PyObject *path_of_error(const struct input *input, const scaleview_answer *answer);
+
 /* arguments.c: numbers, types, limits and bytes. */
 int read_number(const char *name, PyObject *object, uint64_t most, uint64_t *number);
 int read_type(const struct state *state, PyObject *registry, PyObject *object, uint32_t *type);

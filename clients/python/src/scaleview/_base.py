@@ -21,6 +21,9 @@ class Refused(ValueError):
         to_type: The position of a type that doesn't exist, or None.
         item: The position of the rejected item of `decode_many`, or None.
         name: The name that metadata doesn't have, or has no bytes for, or None.
+        path: Where in a value its bytes are rejected, such as "value.fields[3].name", with variants
+            and fields by their names. It is None if the bytes of no value are rejected or they
+            came in pieces, for TrailingBytes, and if there is no memory for it.
     """
 
     def __init__(
@@ -33,6 +36,7 @@ class Refused(ValueError):
         to_type: Optional[int] = None,
         item: Optional[int] = None,
         name: Optional[str] = None,
+        path: Optional[str] = None,
     ) -> None:
         self.code = code
         self.reason = reason
@@ -42,7 +46,8 @@ class Refused(ValueError):
         self.to_type = to_type
         self.item = item
         self.name = name
-        super().__init__(code, reason, part, place, from_type, to_type, item, name)
+        self.path = path
+        super().__init__(code, reason, part, place, from_type, to_type, item, name, path)
 
     def __str__(self) -> str:
         text = f"{self.part}: {self.reason}"
@@ -68,6 +73,8 @@ class EncodeError(Refused):
         path: Where it is, such as "value.fields[3].name".
         node: The position of its node among those of the value.
     """
+
+    path: str
 
     def __init__(self, code: int, reason: str, path: str, node: int) -> None:
         super().__init__(code, reason, "value")

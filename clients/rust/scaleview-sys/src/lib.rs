@@ -275,6 +275,18 @@ pub struct scaleview_node {
     pub high: u64,
 }
 
+/// A step of the path from a value to one of its parts: a node, and which of its parts is meant.
+#[repr(C)]
+#[derive(Clone, Copy, Debug, Default, PartialEq, Eq, Hash)]
+pub struct scaleview_step {
+    /// The position of the node's type.
+    pub r#type: u32,
+    /// Of a variant, the position of its arm; otherwise 0.
+    pub arm: u32,
+    /// The position of the part, from 0: of a field, a member or an element.
+    pub part: u32,
+}
+
 /// What a call reports besides its code, which is repeated here. Numbers are 0 unless the code
 /// gives them a meaning.
 #[repr(C)]
@@ -317,6 +329,7 @@ const _: () = {
     assert!(size_of::<scaleview_type_shape>() == 28 && align_of::<scaleview_type_shape>() == 4);
     assert!(size_of::<scaleview_node>() == 32 && align_of::<scaleview_node>() == align_of::<u64>());
     assert!(offset_of!(scaleview_node, arm) == 12 && offset_of!(scaleview_node, low) == 16);
+    assert!(size_of::<scaleview_step>() == 12 && align_of::<scaleview_step>() == 4);
     assert!(
         size_of::<scaleview_answer>() == 24 && align_of::<scaleview_answer>() == align_of::<u64>()
     );
@@ -617,6 +630,27 @@ unsafe extern "C" {
         node_room: usize,
         pool: *mut u8,
         pool_room: usize,
+        answer: *mut scaleview_answer,
+    ) -> u32;
+
+    /// Reports where in a value its bytes are rejected or end, and writes the steps to there.
+    ///
+    /// # Safety
+    ///
+    /// `registry` is null, or open and not closed before the call returns, by another thread too.
+    /// No call that changes the registry or a session of it runs at the same time. `bytes` can be
+    /// read for `length` elements. `steps` can be written for `room` elements. `answer` can be
+    /// written. What is written overlaps nothing else that the call is given.
+    pub fn scaleview_path_of(
+        registry: scaleview_registry,
+        id: u32,
+        depth: u16,
+        limit: u64,
+        memory: u64,
+        bytes: *const u8,
+        length: usize,
+        steps: *mut scaleview_step,
+        room: usize,
         answer: *mut scaleview_answer,
     ) -> u32;
 

@@ -53,6 +53,11 @@ pub(crate) fn extend(vector: &mut Vec<u8>, bytes: &[u8]) -> Result<(), Error> {
 pub(crate) struct Text(Vec<u8>);
 
 impl Text {
+    /// Returns whether nothing was written.
+    pub fn is_empty(&self) -> bool {
+        self.0.is_empty()
+    }
+
     /// Returns what was written.
     pub fn into_string(self) -> Result<String, Error> {
         // Whole texts were written.

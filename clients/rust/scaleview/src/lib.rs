@@ -40,6 +40,7 @@ mod buffer;
 mod convert;
 mod describe;
 mod error;
+mod error_path;
 mod index;
 mod item;
 mod json;
