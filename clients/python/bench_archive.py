@@ -33,6 +33,8 @@ from scaleview import Metadata, to_json_for_browsers
 CHAIN = pathlib.Path(__file__).resolve().parents[2] / "examples" / "chain" / "chain.metadata"
 NAME, BATCH, DIFFERENT = "storage:System.Account", 10_000, 1000
 ROWS, WORKERS = 4_000_000, [1, 2, 4]
+# Smaller than usual, so that so few rows have many times as many parts as there are workers.
+PART_BYTES = 1 << 24
 
 
 def accounts() -> List[bytes]:
@@ -112,6 +114,7 @@ def resident(pid: int) -> Dict[int, int]:
 def command(path: pathlib.Path, out: pathlib.Path, workers: int) -> Tuple[float, List[int]]:
     """The seconds of a run, and the greatest resident memory of a worker each second."""
     words = [str(CHAIN), NAME, str(path), "--out", str(out), "--workers", str(workers)]
+    words += ["--part-bytes", str(PART_BYTES)]
     began, held = time.perf_counter(), []
     process = subprocess.Popen([sys.executable, "-m", "scaleview.archive", *words], stdout=subprocess.DEVNULL)
     while process.poll() is None:

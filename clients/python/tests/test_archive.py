@@ -86,6 +86,8 @@ def compact(number: int) -> bytes:
 class Case(unittest.TestCase):
     """A test with a folder."""
 
+    maxDiff = None
+
     def setUp(self) -> None:
         made = tempfile.TemporaryDirectory()
         self.addCleanup(made.cleanup)

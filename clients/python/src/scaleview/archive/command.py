@@ -250,5 +250,6 @@ def main(arguments: Optional[Sequence[str]] = None) -> int:
         print(f"scaleview: {failure.line}", file=sys.stderr)
         return failure.status
     except KeyboardInterrupt:
+        print("scaleview: stopped", file=sys.stderr)
         return Status.INTERRUPTED
     return Status.DONE

@@ -8,6 +8,8 @@ import dataclasses
 import functools
 import itertools
 import logging
+import signal
+import threading
 import uuid
 from typing import Any, Dict, Iterator, List, Optional, Set, Tuple, Union
 
@@ -19,9 +21,7 @@ from distributed import (
     Future,
     KilledWorker,
     LocalCluster,
-    TimeoutError,
     get_worker,
-    wait,
 )
 from distributed.comm.core import CommClosedError
 
@@ -36,8 +36,8 @@ from .tasks import decode_gzip, decode_part, parts_of
 _MOST_DEATHS = 10
 # How many tasks the scheduler has for each thread of a worker.
 _TASKS_OF_A_THREAD = 2
-# How often the bar changes and worker processes are looked at, if no part is finished meanwhile.
-_SECONDS_BETWEEN = 1.0
+# How often the bar, signals and worker processes are looked at, if no part is finished meanwhile.
+_SECONDS_BETWEEN = 0.25
 
 
 @dataclasses.dataclass(frozen=True)
@@ -97,11 +97,12 @@ def run(job: Job, where: Union[Workers, Scheduler], progress: Progress) -> Summa
         tasks = _open_tasks(job, folder, topic, progress)
         first = next(tasks, None)
         if first is not None:
-            with _quiet(), _cluster_of(where, folder) as cluster:
+            with _cluster_of(where, folder) as cluster:
                 if job.packing is Packing.GZIP:
                     report = functools.partial(_add_reported, progress)
                     cluster.client.subscribe_topic(topic, report)
-                _run_tasks(cluster, itertools.chain([first], tasks), progress)
+                with _noted_signals() as noted:
+                    _run_tasks(cluster, itertools.chain([first], tasks), progress, noted)
         progress.end()
         return folder.join(job)
 
@@ -139,17 +140,6 @@ def _add_reported(progress: Progress, event: Tuple[float, Dict[str, Any]]) -> No
 
 
 @contextlib.contextmanager
-def _quiet() -> Iterator[None]:
-    """Keeps the cluster from logging, in this process."""
-    before = logging.root.manager.disable
-    logging.disable(logging.CRITICAL)
-    try:
-        yield
-    finally:
-        logging.disable(before)
-
-
-@contextlib.contextmanager
 def _cluster_of(where: Union[Workers, Scheduler], folder: Folder) -> Iterator[Cluster]:
     """Connects to a cluster, or starts one."""
     with contextlib.ExitStack() as stack:
@@ -180,16 +170,45 @@ def _start(count: int, folder: Folder, stack: contextlib.ExitStack) -> Cluster:
     return Cluster(client, stack.enter_context(Processes(address, str(folder.unfinished), count)))
 
 
-def _run_tasks(cluster: Cluster, tasks: Iterator[Task], progress: Progress) -> None:
-    """Gives the scheduler as many tasks as keep the workers busy, and new ones as they end."""
+@contextlib.contextmanager
+def _noted_signals() -> Iterator[List[int]]:
+    """Adds signals to a list that would otherwise raise KeyboardInterrupt. That might be raised in a
+    finalizer, and then be lost."""
+    noted: List[int] = []
+    before = {}
+    if threading.current_thread() is threading.main_thread():
+        for number in (signal.SIGINT, signal.SIGTERM):
+            before[number] = signal.signal(number, lambda number, _: noted.append(number))
+    try:
+        yield noted
+    finally:
+        for number, handler in before.items():
+            signal.signal(number, handler)
+
+
+def _run_tasks(
+    cluster: Cluster, tasks: Iterator[Task], progress: Progress, noted: List[int]
+) -> None:
+    """Gives the scheduler as many tasks as keep the workers busy, and new ones as they end.
+
+    Raises:
+        KeyboardInterrupt: A signal was noted.
+    """
     pending: Set[Future] = set()
+    has_ended = threading.Event()
     while True:
         wanted = _TASKS_OF_A_THREAD * max(cluster.thread_count(), 1) - len(pending)
         for function, *arguments in itertools.islice(tasks, max(wanted, 0)):
-            pending.add(cluster.client.submit(function, *arguments, pure=False))
+            future = cluster.client.submit(function, *arguments, pure=False)
+            future.add_done_callback(lambda _: has_ended.set())
+            pending.add(future)
         if not pending:
             return
-        ended = _wait_for(pending)
+        has_ended.wait(_SECONDS_BETWEEN)
+        has_ended.clear()
+        if noted:
+            raise KeyboardInterrupt
+        ended = [future for future in pending if future.done()]
         for future in ended:
             pending.remove(future)
             summary = _result_of(future)
@@ -199,16 +218,6 @@ def _run_tasks(cluster: Cluster, tasks: Iterator[Task], progress: Progress) -> N
             cluster.note_progress()
         cluster.check()
         progress.refresh()
-
-
-def _wait_for(pending: Set[Future]) -> List[Future]:
-    """Returns the tasks that have ended, of which there may be none after some time."""
-    try:
-        wait(pending, timeout=_SECONDS_BETWEEN, return_when="FIRST_COMPLETED")
-    except (TimeoutError, CancelledError):
-        # A task that is cancelled has ended, and says so by its result.
-        pass
-    return [future for future in pending if future.done()]
 
 
 def _result_of(future: Future) -> Optional[Summary]:
