@@ -638,9 +638,8 @@ unsafe extern "C" {
     /// # Safety
     ///
     /// `registry` is null, or open and not closed before the call returns, by another thread too.
-    /// No call that changes the registry or a session of it runs at the same time. `bytes` can be
-    /// read for `length` elements. `steps` can be written for `room` elements. `answer` can be
-    /// written. What is written overlaps nothing else that the call is given.
+    /// `bytes` can be read for `length` elements. `steps` can be written for `room` elements.
+    /// `answer` can be written. What is written overlaps nothing else that the call is given.
     pub fn scaleview_path_of(
         registry: scaleview_registry,
         id: u32,
