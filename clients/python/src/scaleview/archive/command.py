@@ -227,7 +227,7 @@ def _run(arguments: Optional[Sequence[str]]) -> None:
     except ModuleNotFoundError as error:
         if (error.name or "").partition(".")[0] not in ("distributed", "dask"):
             raise
-        what = "install python3-distributed or scaleview[archive]"
+        what = "install python3-distributed, or distributed by pip"
         line = f"the package distributed is missing: {what}"
         raise Failure(Status.DEVICE, line) from None
     where: Union[Scheduler, Workers] = Workers(words.workers)
