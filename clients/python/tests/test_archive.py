@@ -681,7 +681,7 @@ class Command(Case):
     @unittest.skipIf(HAS_CLUSTER, "the package distributed is there")
     def test_a_missing_cluster_is_one_line(self) -> None:
         file = self.write("rows", row(1))
-        line = "the package distributed is missing: install python3-distributed or scaleview[archive]"
+        line = "the package distributed is missing: install python3-distributed, or distributed by pip"
         self.check(3, line, self.metadata, ACCOUNT, file, "--out", self.out)
 
 

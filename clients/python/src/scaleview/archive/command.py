@@ -42,8 +42,8 @@ examples:
       --scheduler tcp://10.0.0.1:8786
 
 exit status: 0 if all rows are in the parts or in errors.jsonl; 1 if metadata, an input or DIR is
-rejected; 2 for wrong words; 3 if a file, a worker or a scheduler fails; 4 if memory doesn't suffice;
-130 if it is stopped.
+rejected; 2 for wrong words; 3 if a file, a worker or a scheduler fails; 4 if memory doesn't
+suffice; 130 if it is stopped.
 """
 
 
@@ -85,18 +85,20 @@ def _parser() -> argparse.ArgumentParser:
 
 def _add_inputs(group: Any) -> None:
     add, forms = group.add_argument, [form.value for form in Form]
-    text = "lines of JSON objects, lines of hexadecimal digits, or values with their lengths in front"
-    add("-i", "--input", choices=forms, default=Form.JSON.value, help=text + " (json)")
+    text = "lines of JSON objects (json), lines of hexadecimal digits, or values after lengths"
+    add("-i", "--input", choices=forms, default=Form.JSON.value, help=text)
     add("-z", "--gzip", action="store_true", help="the inputs are compressed by gzip")
     for field in Fields._fields:
-        add(f"--{field}-field", metavar="FIELD", default=field, help=f"the field of the {field} ({field})")
+        text = f"the field of the {field} ({field})"
+        add(f"--{field}-field", metavar="FIELD", default=field, help=text)
     add("--part-bytes", metavar="N", type=_number(1, 1 << 40), default=PART_BYTES,
         help=f"how many bytes of an input a part has ({PART_BYTES})")  # fmt: skip
 
 
 def _add_values(group: Any) -> None:
     add = group.add_argument
-    add("--versions", metavar="FILE", help="lines FIRST LAST FILE: the metadata of ranges of blocks")
+    text = "lines FIRST LAST FILE: the metadata of ranges of blocks"
+    add("--versions", metavar="FILE", help=text)
     add("--raw-keys", action="store_true", help="leave keys as they are given")
     add("--bits", action="store_true", help="read bit sequences")
     add("--opaque", action="store_true", help="values have their length in front")
@@ -112,8 +114,10 @@ def _add_workers(group: Any) -> None:
     where = group.add_mutually_exclusive_group()
     where.add_argument("--workers", metavar="N", type=_number(1, 1 << 12),
                        help="the number of processes on this machine (all processors)")  # fmt: skip
-    where.add_argument("--scheduler", metavar="ADDRESS", help="a cluster, whose machines share all folders")
-    group.add_argument("--progress", action="store_true", help="show a bar if this is no terminal, too")
+    text = "a cluster, whose machines share all folders"
+    where.add_argument("--scheduler", metavar="ADDRESS", help=text)
+    text = "show a bar if this is no terminal, too"
+    group.add_argument("--progress", action="store_true", help=text)
 
 
 def _job_of(words: argparse.Namespace) -> Job:
@@ -223,7 +227,8 @@ def _run(arguments: Optional[Sequence[str]]) -> None:
     except ModuleNotFoundError as error:
         if (error.name or "").partition(".")[0] not in ("distributed", "dask"):
             raise
-        line = "the package distributed is missing: install python3-distributed or scaleview[archive]"
+        what = "install python3-distributed, or distributed by pip"
+        line = f"the package distributed is missing: {what}"
         raise Failure(Status.DEVICE, line) from None
     where: Union[Scheduler, Workers] = Workers(words.workers)
     if words.scheduler:

@@ -53,7 +53,7 @@ class Limits:
 
     @property
     def line(self) -> int:
-        """The most bytes of a line: two digits for each byte of a value, and as many for the rest."""
+        """The most bytes of a line: two digits for each byte of a value, and as much again."""
         return 4 * self.bytes + 4096
 
 

@@ -49,7 +49,8 @@ class Progress:
         fresh = self._bytes - self._bytes_before
         left = (self._total - self._bytes) * seconds / fresh if fresh > 0 else 0.0
         rate = self._rows / seconds if seconds > 0 else 0.0
-        return f"[{bar}] {done:4.0%}  {rate:,.0f} rows/s  {self._errors:,} errors  {clock(left)} left"
+        errors = f"{self._errors:,} errors"
+        return f"[{bar}] {done:4.0%}  {rate:,.0f} rows/s  {errors}  {clock(left)} left"
 
     def end(self) -> None:
         """Removes the bar."""

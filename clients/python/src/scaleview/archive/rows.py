@@ -153,17 +153,21 @@ class Rows:
         for start in range(0, len(values), _GROUP):
             group = values[start : start + _GROUP]
             try:
-                self._hold([f'{{"value":{text}}}' for text in map(write, group)])
+                texts = [f'{{"value":{text}}}' for text in map(write, group)]
             except _REJECTED:
                 self._add_each(group, write)
+            else:
+                self._hold(texts)
 
     def _add_each(self, values: Union[List[bytes], List[str]], write: Callable[[Any], str]) -> None:
         """Adds values some of which are rejected."""
         for value in values:
             try:
-                self._hold([f'{{"value":{write(value)}}}'])
+                text = f'{{"value":{write(value)}}}'
             except _REJECTED as error:
                 self._reject(self._names.value, error)
+            else:
+                self._hold([text])
 
     def _add_bytes(self, lines: List[bytes]) -> None:
         """Adds lines of JSON some of which aren't UTF-8."""
@@ -222,9 +226,11 @@ class Rows:
             if key is not None:
                 field = self._names.key
                 text = f'"key":{self._text_of_key(key)},{text}'
-            self._hold(["{" + text if block is None else f'{{"block":{block},{text}'])
+            text = "{" + text if block is None else f'{{"block":{block},{text}'
         except _REJECTED as error:
             self._reject(field, error)
+        else:
+            self._hold([text])
 
     def _check(self, row: Dict[str, Any]) -> None:
         """Rejects a row whose value is absent or no text, or whose block is no whole number, or

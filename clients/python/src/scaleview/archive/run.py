@@ -149,8 +149,10 @@ def _cluster_of(where: Union[Workers, Scheduler], folder: Folder) -> Iterator[Cl
             else:
                 cluster = _start(where.count or dask.system.CPU_COUNT, folder, stack)
         except (OSError, ValueError, RuntimeError) as error:
-            what = f"{where.address}: no scheduler" if isinstance(where, Scheduler) else "no workers"
-            raise Failure(Status.DEVICE, f"{what}: {error}") from None
+            line = f"no workers: {error}"
+            if isinstance(where, Scheduler):
+                line = f"{where.address}: no scheduler: {error}"
+            raise Failure(Status.DEVICE, line) from None
         yield cluster
 
 
@@ -172,8 +174,8 @@ def _start(count: int, folder: Folder, stack: contextlib.ExitStack) -> Cluster:
 
 @contextlib.contextmanager
 def _noted_signals() -> Iterator[List[int]]:
-    """Adds signals to a list that would otherwise raise KeyboardInterrupt. That might be raised in a
-    finalizer, and then be lost."""
+    """Adds signals to a list that would otherwise raise KeyboardInterrupt. That might be raised in
+    a finalizer, and then be lost."""
     noted: List[int] = []
     before = {}
     if threading.current_thread() is threading.main_thread():
