@@ -46,7 +46,10 @@ fn field_of(definition: &TypeDef, subject: Subject) -> Option<&Field>
     match subject {
         Subject::Field(position) => composite_field(definition, position),
         Subject::ArmField { arm, field } => {
-            arm_of(definition, arm)?.fields.as_slice().get(field as usize)
+            arm_of(definition, arm)?
+                .fields
+                .as_slice()
+                .get(field as usize)
         }
         Subject::Type | Subject::Arm(_) => None,
     }
@@ -91,11 +94,7 @@ pub fn type_param(checked: &Checked, id: u32, position: u32) -> Result<&Param, P
 ///
 /// - `UnknownType` if the registry has no type at the position `id`.
 /// - `UnknownPart` if the subject is no field of the type.
-pub fn type_name(
-    checked: &Checked,
-    id: u32,
-    subject: Subject,
-) -> Result<Option<&Text>, PartRefusal>
+pub fn type_name(checked: &Checked, id: u32, subject: Subject) -> Result<Option<&Text>, PartRefusal>
     ensures { result_map option_copied result ≡ type_name checked.now.types id subject }
 {
     match checked.registry().types().get(id as usize) {
