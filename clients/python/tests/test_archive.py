@@ -325,8 +325,10 @@ class Archives(JobCase):
             rows, errors = self.decode([file, file], "--part-bytes", part_bytes)
             self.assertEqual(rows, [row_text(5)[:-1]] * 2 * len(wrong))
             places = [(2 * at + 1, *its) for at, (_, its) in enumerate(wrong)] * 2
+            # A value that is cut lacks its flags, and a key its account, a newtype.
+            paths = {("value", "Truncated"): "value.data.flags", ("key", "Truncated"): "value.key0[0]"}
             # Where the whole text ends is where the module json notices it.
-            self.check_errors([{**it, "place": None} for it in errors], [(*it[:3], None, None) for it in places])
+            self.check_errors([{**it, "place": None} for it in errors], [(*it[:3], None, paths.get(it[1:3])) for it in places])
             self.assertEqual([it["place"] for it in errors if it["reason"] != "NotJson"], [it[3] for it in places if it[2] != "NotJson"])
             self.assertEqual({it["file"] for it in errors}, {file})
 
@@ -335,12 +337,12 @@ class Archives(JobCase):
         file = self.write("rows", b"\n".join([b"", b"0x0", b"0x0\xe9" + b"00" * 79, b"0x" + value.hex().encode(), b" "]))
         rows, errors = self.decode([file], "-i", "hex")
         self.assertEqual(rows, [f'{{"value":{account_text(5)}}}'])
-        expected = [(1, "value", "Truncated", 0, None), (2, "value", "OddHex", 3, None)]
+        expected = [(1, "value", "Truncated", 0, "value.nonce"), (2, "value", "OddHex", 3, None)]
         self.check_errors(errors, [*expected, (3, "value", "BadHex", 3, None), (5, "value", "OddHex", 1, None)])
         data = compact(79) + value[:-1] + compact(80) + value + compact(80) + value[:9]
         rows, errors = self.decode([self.write("rows", data)], "-i", "lengths")
         self.assertEqual(rows, [f'{{"value":{account_text(5)}}}'])
-        self.check_errors(errors, [(1, "value", "Truncated", 79, None), (3, None, "Truncated", 163, None)])
+        self.check_errors(errors, [(1, "value", "Truncated", 79, "value.data.flags"), (3, None, "Truncated", 163, None)])
 
     def test_limits_hold_for_each_row(self) -> None:
         file = self.write("rows", row(1) + row(2))
