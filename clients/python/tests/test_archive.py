@@ -325,8 +325,8 @@ class Archives(JobCase):
             rows, errors = self.decode([file, file], "--part-bytes", part_bytes)
             self.assertEqual(rows, [row_text(5)[:-1]] * 2 * len(wrong))
             places = [(2 * at + 1, *its) for at, (_, its) in enumerate(wrong)] * 2
-            # A value that is cut lacks its flags, and a key its account, a newtype.
-            paths = {("value", "Truncated"): "value.data.flags", ("key", "Truncated"): "value.key0[0]"}
+            # A value that is cut lacks its flags, and a key its account: both are newtypes.
+            paths = {("value", "Truncated"): "value.data.flags[0]", ("key", "Truncated"): "value.key0[0]"}
             # Where the whole text ends is where the module json notices it.
             self.check_errors([{**it, "place": None} for it in errors], [(*it[:3], None, paths.get(it[1:3])) for it in places])
             self.assertEqual([it["place"] for it in errors if it["reason"] != "NotJson"], [it[3] for it in places if it[2] != "NotJson"])
@@ -342,7 +342,7 @@ class Archives(JobCase):
         data = compact(79) + value[:-1] + compact(80) + value + compact(80) + value[:9]
         rows, errors = self.decode([self.write("rows", data)], "-i", "lengths")
         self.assertEqual(rows, [f'{{"value":{account_text(5)}}}'])
-        self.check_errors(errors, [(1, "value", "Truncated", 79, "value.data.flags"), (3, None, "Truncated", 163, None)])
+        self.check_errors(errors, [(1, "value", "Truncated", 79, "value.data.flags[0]"), (3, None, "Truncated", 163, None)])
 
     def test_limits_hold_for_each_row(self) -> None:
         file = self.write("rows", row(1) + row(2))
